@@ -1,0 +1,8 @@
+use native.Mathlib.Omega.{arith}
+use mir.Val.{Fits}
+use mir.Syntax.{w32}
+use Rattle.body.proofs.Walks.{first-beyond-low}
+use Rattle.body.proofs.reach.judge.Needs as need
+
+pub cast-first-beyond : need.cast-first-beyond
+cast-first-beyond c = omega (arith, first-beyond-low (c .args .points .now))

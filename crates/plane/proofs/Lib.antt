@@ -1,0 +1,8 @@
+pub mod Laws
+pub mod Ring
+pub mod Order
+pub mod Fit
+pub mod Points
+pub mod Farther
+pub mod Apart
+pub mod Supporting

@@ -1,0 +1,5 @@
+pub mod Fault
+pub mod Directed
+pub mod Plane
+pub mod Hull
+pub mod Support

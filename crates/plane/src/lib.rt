@@ -1,0 +1,4 @@
+pub mod direction;
+pub mod fault;
+pub mod point;
+pub mod products;
