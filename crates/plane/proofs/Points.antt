@@ -4,7 +4,8 @@ use lib.Dec.{eqb}
 use lib.IntN.{ℤ, pos, negsuc}
 use mathlib.Core.Bool.{Bool, true, false, _&&_}
 use mathlib.Core.Path.{_≡_, refl, ap, sym, _∙_, subst}
-use Rattle.std.proofs.shelf.Tests.{eqb-true, eq-eqb, and-parts, and-from, cases-bool, both-ways}
+use Rattle.std.specs.Orderings.{Decides}
+use Rattle.std.proofs.shelf.Tests.{eqb-true, eq-eqb, and-parts, and-from, both-ways, false≢true}
 use Rattle.plane.specs.declared.point.Point.{Point}
 use Rattle.plane.specs.Plane.{equal, same}
 
@@ -40,3 +41,10 @@ same-true p q h = let k = and-parts (equal (p .x) (q .x)) (equal (p .y) (q .y)) 
 
 pub same-no : (p q : Point) → (p ≡ q → ⊥) → same p q ≡ false
 same-no p q n = test-no (same p q) (same-true p q) n
+
+-- what `==` on points tells
+pub told-same : (p q : Point) → Decides true (p .x ≡ q .x) × Decides true (p .y ≡ q .y) → p ≡ q
+told-same p q h = point-same (h .0 .0 refl) (h .1 .0 refl)
+
+pub told-apart : (p q : Point) → ((Decides false (p .x ≡ q .x) → ⊥) → (Decides false (p .y ≡ q .y) → ⊥) → ⊥) → p ≡ q → ⊥
+told-apart p q h e = h (λ d. false≢true (d .1 (λ i. e i .x))) (λ d. false≢true (d .1 (λ i. e i .y)))

@@ -37,6 +37,10 @@ cross p q = p .x *ℤ q .y -ℤ p .y *ℤ q .x
 abbrev pub perp : Point → Point
 perp u = point (negℤ (u .y)) (u .x)
 
+-- the normal (dy, -dx) of the edge from p to q, with d = q - p
+abbrev pub normal : Point → Point → Point
+normal p q = point (minus q p .y) (negℤ (minus q p .x))
+
 -- the greater of the two absolute coordinates
 abbrev pub size : Point → ℕ
 size p = max (natAbs (p .x)) (natAbs (p .y))

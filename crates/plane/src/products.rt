@@ -1,9 +1,12 @@
 ghost use mathlib.Core.Path.{_≡_};
 ghost use Prim.Native.Nat.{ℕ, _+_, _*_, _^_, _<_, _≤_};
 ghost use lib.IntN.{natAbs, _*ℤ_};
-ghost use Rattle.plane.specs.Plane.{vector, dot, cross, perp};
+ghost use Rattle.std.specs.Results.{Cases, isOk};
+ghost use Rattle.plane.specs.Directed.{directed, no-direction};
+ghost use Rattle.plane.specs.Plane.{vector, dot, cross, perp, normal};
 ghost use Rattle.plane.specs.Support.{beyond};
 use crate::direction::Direction;
+use crate::fault::Fault;
 use crate::point::Point;
 
 // a·b, of two numbers of 32 bits.
@@ -46,4 +49,12 @@ impl Direction {
         let near = self.dot(q);
         far < near || (far == near && self.perp().dot(p) < self.perp().dot(q))
     }
+}
+
+// The normal (dy, -dx) of the edge from p to q, with d = q - p, or a refusal where it is no direction.
+pub fn normal(p: Point, q: Point) -> Result<Direction, Fault>
+    ensures accepts { λ r. ⌜ isOk r ≡ directed (normal p q .x) (normal p q .y) ⌝ }
+    ensures value { λ r. ⌜ Cases r (λ d. vector d ≡ normal p q) (λ e. e ≡ no-direction) ⌝ }
+{
+    Direction::new(q.y as i64 - p.y as i64, p.x as i64 - q.x as i64)
 }

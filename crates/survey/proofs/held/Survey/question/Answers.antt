@@ -1,0 +1,26 @@
+use mathlib.Core.Path.{sym}
+use lib.ListN.{getD}
+use native.Mathlib.Omega.{arith}
+use Rattle.survey.specs.Rules.{question}
+use Rattle.survey.specs.State.{state}
+use Rattle.survey.proofs.Marks.{corner-front}
+use Rattle.survey.proofs.Steps.{open-survey, question-front, asks-normal}
+use Rattle.survey.proofs.held.Survey.question.Needs as need
+
+pub listed : need.listed
+listed g c = omega (arith, open-survey (c .args .self .now) (c .pre) (omega arith))
+
+pub index-self-self : need.index-self-self
+index-self-self g c = omega (arith, open-survey (c .args .self .now) (c .pre) (omega arith))
+
+pub edge-end-requires : need.edge-end-requires
+edge-end-requires g c κs = open-survey (c .args .self .now) (c .pre) (omega arith)
+
+pub returns : need.returns
+returns g c =
+    let s = c .args .self .now in
+    let p = getD (s .corners) (s .settled) (c .index-self-self .result) .at in
+    let q = c .edge-end .result in
+    let start = corner-front (s .settled) (s .count) (s .corners) (s .settled) (c .index-self-self .result) (omega arith) (open-survey s (c .pre) (omega arith)) in
+    let asked = question-front (s .settled) (s .count) (s .corners) p q (omega arith) (omega arith) (s .settles) start (sym (c .edge-end .ensures)) in
+    asks-normal (question (state s .found)) p q (c .normal .result) asked (c .normal .ensures .accepts) (c .normal .ensures .value)

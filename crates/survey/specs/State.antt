@@ -1,0 +1,37 @@
+-- What a survey holds, read off the struct.
+use mathlib.Core.Bool.{Bool, true, false}
+use mathlib.Core.List.{List, [], _∷_}
+use mathlib.Core.Path.{_≡_}
+use Prim.Native.Nat.{ℕ, zero, suc}
+use lib.ListN.{take}
+use Rattle.std.specs.declared.result.Result.{Result}
+use Rattle.std.specs.declared.result.Result.the-variants.{Ok, Err}
+use Rattle.plane.specs.declared.direction.Direction.{Direction}
+use Rattle.plane.specs.declared.fault.Fault.{Fault}
+use Rattle.plane.specs.declared.point.Point.{Point}
+use Rattle.plane.specs.Directed.{directed, no-direction}
+use Rattle.plane.specs.Plane.{vector}
+use Rattle.survey.specs.declared.call.Corner.{Corner}
+use Rattle.survey.specs.declared.held.Survey.{Survey}
+use Rattle.survey.specs.Rules.{Found, State}
+
+-- the direction that found a corner, as a vector
+abbrev pub found-by : Corner → Point
+found-by c = vector (c .asked)
+
+abbrev pub found : Bool → Corner → Found
+found b c = record { corner = c .at; asked = found-by c; settled = b }
+
+-- the corners, the edges from the first n settled
+abbrev pub marked : ℕ → List Corner → List Found
+marked n [] = []
+marked zero (c ∷ cs) = found false c ∷ marked zero cs
+marked (suc n) (c ∷ cs) = found true c ∷ marked n cs
+
+abbrev pub state : {A : Type 0} → Survey A → State
+state s = record { found = marked (s .settled) (take (s .count) (s .corners)); probes = s .probes }
+
+-- a direction for the question u, or a refusal where u is none
+abbrev pub Asks : Point → Result Direction Fault → Type 0
+Asks u (Ok d) = vector d ≡ u
+Asks u (Err e) = (directed (u .x) (u .y) ≡ false) × (e ≡ no-direction)

@@ -1,0 +1,4 @@
+pub mod call;
+pub mod held;
+pub mod insert;
+pub mod probe;
