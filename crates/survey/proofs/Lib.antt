@@ -1,3 +1,4 @@
 pub mod Inserting
 pub mod Marks
 pub mod Steps
+pub mod Runs

@@ -14,7 +14,7 @@ use Rattle.std.proofs.shelf.Tests.{lt-ltb, le-ltb, eq-eqb, ne-eqb, eqb-false, c
 use Rattle.plane.specs.declared.point.Point.{Point}
 use Rattle.survey.specs.declared.call.Corner.{Corner}
 use Rattle.survey.specs.Rules.{Found, closed-list, all-settled, first-open, nothing, edge-start, edge-end, settle}
-use Rattle.survey.specs.State.{found, found-by, marked}
+use Rattle.survey.specs.State.{mark, found-by, marked}
 
 pub length-marked : (n : ℕ) (cs : List Corner) → length (marked n cs) ≡ length cs
 length-marked n [] = refl
@@ -28,7 +28,7 @@ corner-marked (suc n) (c ∷ cs) zero d h = refl
 corner-marked zero (c ∷ cs) (suc i) d h = corner-marked zero cs i d (omega arith)
 corner-marked (suc n) (c ∷ cs) (suc i) d h = corner-marked n cs i d (omega arith)
 
-pub asked-marked : (n : ℕ) (cs : List Corner) (i : ℕ) (d : Corner) → i < length cs → getD (marked n cs) i nothing .asked ≡ found false (getD cs i d) .asked
+pub asked-marked : (n : ℕ) (cs : List Corner) (i : ℕ) (d : Corner) → i < length cs → getD (marked n cs) i nothing .asked ≡ mark false (getD cs i d) .asked
 asked-marked n [] i d h = absurd (omega arith)
 asked-marked zero (c ∷ cs) zero d h = refl
 asked-marked (suc n) (c ∷ cs) zero d h = refl
@@ -71,17 +71,17 @@ settle-marked n cs h = ap (λ (m : ℕ). marked m cs) (add-one n) ∙ go n cs h
     go : (n : ℕ) (cs : List Corner) → n < length cs → marked (suc n) cs ≡ settle (marked n cs) n
     go n [] h = absurd (omega arith)
     go zero (c ∷ cs) h = refl
-    go (suc n) (c ∷ cs) h = ap (λ (fs : List Found). found true c ∷ fs) (go n cs (omega arith))
+    go (suc n) (c ∷ cs) h = ap (λ (fs : List Found). mark true c ∷ fs) (go n cs (omega arith))
 
 -- a corner taken in after the settled edges, with an open edge
-pub inserted-marked : (n : ℕ) (cs : List Corner) (i : ℕ) (c : Corner) → n ≤ i → i ≤ length cs → marked n (inserted cs i c) ≡ inserted (marked n cs) i (found false c)
+pub inserted-marked : (n : ℕ) (cs : List Corner) (i : ℕ) (c : Corner) → n ≤ i → i ≤ length cs → marked n (inserted cs i c) ≡ inserted (marked n cs) i (mark false c)
 inserted-marked zero [] zero c h k = refl
 inserted-marked (suc n) [] zero c h k = absurd (omega arith)
 inserted-marked n [] (suc i) c h k = absurd (omega arith)
 inserted-marked zero (d ∷ cs) zero c h k = refl
 inserted-marked (suc n) (d ∷ cs) zero c h k = absurd (omega arith)
-inserted-marked zero (d ∷ cs) (suc i) c h k = ap (λ (fs : List Found). found false d ∷ fs) (inserted-marked zero cs i c (omega arith) (omega arith))
-inserted-marked (suc n) (d ∷ cs) (suc i) c h k = ap (λ (fs : List Found). found true d ∷ fs) (inserted-marked n cs i c (omega arith) (omega arith))
+inserted-marked zero (d ∷ cs) (suc i) c h k = ap (λ (fs : List Found). mark false d ∷ fs) (inserted-marked zero cs i c (omega arith) (omega arith))
+inserted-marked (suc n) (d ∷ cs) (suc i) c h k = ap (λ (fs : List Found). mark true d ∷ fs) (inserted-marked n cs i c (omega arith) (omega arith))
 
 -- ---- the first k of a table of corners
 

@@ -25,9 +25,9 @@ use Rattle.body.specs.Meaning.{Meaning, Answers}
 use Rattle.body.proofs.Answering.{answers-is}
 use Rattle.survey.specs.declared.call.Corner.{Corner}
 use Rattle.survey.specs.declared.call.Said.the-variants.{Corner as a-corner, Closed}
-use Rattle.survey.specs.Rules.{State, Found, Probed, closed, question, first-open, edge-start, edge-end, take-in, unchanged, settle, settles, about-edge, by-point, by-answer, asks, probe}
+use Rattle.survey.specs.Rules.{State, Found, Probed, closed, question, first-open, edge-start, edge-end, take-in, unchanged, settle, settling, about-edge, by-point, by-answer, asks, probe}
 use Rattle.survey.specs.declared.held.Survey.{Survey}
-use Rattle.survey.specs.State.{found, found-by, marked, state, Asks}
+use Rattle.survey.specs.State.{mark, found-by, marked, state, Asks}
 use Rattle.survey.proofs.Marks.{open-edge, length-front, first-open-marked, inserted-marked, settle-marked}
 
 pub no-room : (s : State) (i : ℕ) (u p : Point) → 256 ≤ length (s .found) → take-in s i u p ≡ unchanged s (Err (fault TooManyCorners 0))
@@ -37,7 +37,7 @@ no-room s i u p h = cond-false _ _ _ (le-ltb (length (s .found)) 256 h)
 pub room : (s : State) (i : ℕ) (u p : Point) → length (s .found) < 256 → take-in s i u p ≡ record { says = Ok a-corner; leaves = record { found = inserted (s .found) i (record { corner = p; asked = u; settled = false }); probes = s .probes + 1 } }
 room s i u p h = cond-true _ _ _ (lt-ltb (length (s .found)) 256 h)
 
-pub grown : (n k : ℕ) (cs ds : List Corner) (i : ℕ) (c : Corner) → k ≤ length cs → n ≤ i → i ≤ k → take (k + 1) ds ≡ inserted (take k cs) i c → marked n (take (k + 1) ds) ≡ inserted (marked n (take k cs)) i (found false c)
+pub grown : (n k : ℕ) (cs ds : List Corner) (i : ℕ) (c : Corner) → k ≤ length cs → n ≤ i → i ≤ k → take (k + 1) ds ≡ inserted (take k cs) i c → marked n (take (k + 1) ds) ≡ inserted (marked n (take k cs)) i (mark false c)
 grown n k cs ds i c h l w e = ap (marked n) e ∙ inserted-marked n (take k cs) i c l (omega (arith, length-take-le k cs h))
 
 pub settled-front : (n k : ℕ) (cs : List Corner) → k ≤ length cs → n < k → marked (n + 1) (take k cs) ≡ settle (marked n (take k cs)) n
@@ -91,14 +91,14 @@ about-first-open s u p n h e = go (s .found) h ∙ ap (λ (i : ℕ). about-edge 
 
 -- a survey with a corner that is not closed has an open edge
 pub open-survey : {A : Type 0} (s : Survey A) → closed (state s) ≡ false → 0 < s .count → s .settled < s .count
-open-survey s o some = open-edge (s .settled) (s .count) (s .corners) (omega arith) (s .settles) some o
+open-survey s o some = open-edge (s .settled) (s .count) (s .corners) (omega arith) (s .within) some o
 
 -- an open survey s that asks d and is answered p
 module _ (m : Meaning) (s : State) (d : Direction) (p : Point) (o : closed s ≡ false) (e : vector d ≡ question (s .found)) (a : Answers m (vector d) (Ok p)) where
   pub probe-first : length (s .found) ≡ 0 → probe m s ≡ take-in s 0 (vector d) p
   probe-first h = probe-asked m s d (Ok p) o e a ∙ first-corner s (vector d) p h
 
-  pub probe-settles : (n : ℕ) → 0 < length (s .found) → first-open (s .found) ≡ n → p ≡ edge-end (s .found) n → probe m s ≡ settles s n
+  pub probe-settles : (n : ℕ) → 0 < length (s .found) → first-open (s .found) ≡ n → p ≡ edge-end (s .found) n → probe m s ≡ settling s n
   probe-settles n h f k = probe-asked m s d (Ok p) o e a ∙ about-first-open s (vector d) p n h f ∙ cond-true _ _ _ (same-yes p (edge-end (s .found) n) k)
 
   pub probe-between : (n : ℕ) → 0 < length (s .found) → first-open (s .found) ≡ n → (p ≡ edge-end (s .found) n → ⊥) → probe m s ≡ take-in s (n + 1) (vector d) p

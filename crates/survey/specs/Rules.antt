@@ -101,8 +101,8 @@ settle [] i = []
 settle (c ∷ cs) zero = record { corner = c .corner; asked = c .asked; settled = true } ∷ cs
 settle (c ∷ cs) (suc i) = c ∷ settle cs i
 
-abbrev pub settles : State → ℕ → Probed
-settles s i = record { says = Ok Settled; leaves = record { found = settle (s .found) i; probes = s .probes + 1 } }
+abbrev pub settling : State → ℕ → Probed
+settling s i = record { says = Ok Settled; leaves = record { found = settle (s .found) i; probes = s .probes + 1 } }
 
 -- a new corner p, found by u, at place i, where there is room for it; the edges on both its sides are open
 abbrev pub take-in : State → ℕ → Point → Point → Probed
@@ -113,7 +113,7 @@ take-in s i u p =
 
 -- the answer p to the question u about edge i: the edge's end settles it, another point goes in between
 abbrev pub about-edge : State → ℕ → Point → Point → Probed
-about-edge s i u p = cond (same p (edge-end (s .found) i)) (settles s i) (take-in s (i + 1) u p)
+about-edge s i u p = cond (same p (edge-end (s .found) i)) (settling s i) (take-in s (i + 1) u p)
 
 abbrev pub by-point : State → Point → Point → List Found → Probed
 by-point s u p [] = take-in s 0 u p
@@ -136,20 +136,21 @@ pub record Run : Type 0 where
   pub tells : Ran
   pub leaves : State
 
--- no probe is counted; closed goes before spent
+-- it ends on s, with no probe counted
 abbrev pub ends : State → Ended → Run
 ends s e = record { tells = record { made = 0; ended = e }; leaves = s }
 
 abbrev pub one-more : Run → Run
 one-more r = record { tells = record { made = r .tells .made + 1; ended = r .tells .ended }; leaves = r .leaves }
 
--- probes until closed, refused or spent
+-- after a probe that said r on s, with what the rest of the run tells and leaves
+abbrev pub follow : Result Said Fault → State → Run → Run
+follow (Ok Corner) s rest = one-more rest
+follow (Ok Settled) s rest = one-more rest
+follow (Ok Closed) s rest = ends s ended.Closed
+follow (Err f) s rest = ends s (ended.Refused f)
+
+-- probes until closed, refused or spent; closed goes before spent
 abbrev pub run : Meaning → ℕ → State → Run
 run m zero s = ends s (cond (closed s) ended.Closed ended.Spent)
-run m (suc budget) s =
-    elim (probe m s .says) [
-      | Ok Corner ↦ one-more (run m budget (probe m s .leaves))
-      | Ok Settled ↦ one-more (run m budget (probe m s .leaves))
-      | Ok Closed ↦ ends s ended.Closed
-      | Err f ↦ ends s (ended.Refused f)
-    ]
+run m (suc budget) s = follow (probe m s .says) s (run m budget (probe m s .leaves))

@@ -19,14 +19,14 @@ use Rattle.survey.specs.Rules.{Found, State}
 abbrev pub found-by : Corner → Point
 found-by c = vector (c .asked)
 
-abbrev pub found : Bool → Corner → Found
-found b c = record { corner = c .at; asked = found-by c; settled = b }
+abbrev pub mark : Bool → Corner → Found
+mark b c = record { corner = c .at; asked = found-by c; settled = b }
 
 -- the corners, the edges from the first n settled
 abbrev pub marked : ℕ → List Corner → List Found
 marked n [] = []
-marked zero (c ∷ cs) = found false c ∷ marked zero cs
-marked (suc n) (c ∷ cs) = found true c ∷ marked n cs
+marked zero (c ∷ cs) = mark false c ∷ marked zero cs
+marked (suc n) (c ∷ cs) = mark true c ∷ marked n cs
 
 abbrev pub state : {A : Type 0} → Survey A → State
 state s = record { found = marked (s .settled) (take (s .count) (s .corners)); probes = s .probes }

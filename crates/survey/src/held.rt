@@ -13,6 +13,6 @@ pub struct Survey<A> {
     pub(crate) probes: u32,
     ghost slots: { length corners ≡ 256 },
     ghost few: { count ≤ 256 },
-    ghost settles: { settled ≤ count },
+    ghost within: { settled ≤ count },
     ghost counted: { probes ≡ count + settled },
 }

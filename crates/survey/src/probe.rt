@@ -1,7 +1,7 @@
 ghost use mathlib.Core.Path.{_≡_};
 ghost use mathlib.Core.Bool.{Bool, false};
 ghost use Prim.Native.Nat.{_+_, _<_, _≤_};
-ghost use Rattle.survey.specs.Rules.{opened, closed, question, first-open, edge-end, probe as probed, take-in, settles};
+ghost use Rattle.survey.specs.Rules.{opened, closed, question, first-open, edge-end, probe as probed, take-in, settling};
 ghost use Rattle.survey.specs.State.{state, Asks, found-by};
 use crate::call::Corner;
 use crate::call::Said;
@@ -89,7 +89,7 @@ impl<A> Survey<A> {
     fn settle(&mut self)
         requires { ⌜ now self .settled < now self .count ⌝ }
         ensures held { λ _. ⌜ now (self .exit) .body ≡ now (self .entry) .body ⌝ }
-        ensures leaves { λ _. ⌜ state (now (self .exit)) ≡ settles (state (now (self .entry))) (now (self .entry) .settled) .leaves ⌝ }
+        ensures leaves { λ _. ⌜ state (now (self .exit)) ≡ settling (state (now (self .entry))) (now (self .entry) .settled) .leaves ⌝ }
     {
         self.settled += 1;
         self.probes += 1;

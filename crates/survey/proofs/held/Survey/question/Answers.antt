@@ -22,5 +22,5 @@ returns g c =
     let p = getD (s .corners) (s .settled) (c .index-self-self .result) .at in
     let q = c .edge-end .result in
     let start = corner-front (s .settled) (s .count) (s .corners) (s .settled) (c .index-self-self .result) (omega arith) (open-survey s (c .pre) (omega arith)) in
-    let asked = question-front (s .settled) (s .count) (s .corners) p q (omega arith) (omega arith) (s .settles) start (sym (c .edge-end .ensures)) in
+    let asked = question-front (s .settled) (s .count) (s .corners) p q (omega arith) (omega arith) (s .within) start (sym (c .edge-end .ensures)) in
     asks-normal (question (state s .found)) p q (c .normal .result) asked (c .normal .ensures .accepts) (c .normal .ensures .value)

@@ -1,0 +1,11 @@
+use Prim.Native.Nat.{_-_}
+use mathlib.Core.Path.{_≡_}
+use Rattle.survey.specs.Rules.{run}
+use Rattle.survey.specs.State.{state}
+use Rattle.survey.proofs.Runs.{after}
+use Rattle.survey.proofs.held.Survey.run.Given as given
+
+abbrev pub Inv-loop-made : given.InvT-loop-made
+Inv-loop-made g l =
+    (l .self .body ≡ l .entry .self .body)
+    × (run (g .A·Body .meaning (l .entry .self .body)) (l .budget) (state (l .entry .self)) ≡ after (l .made) (run (g .A·Body .meaning (l .entry .self .body)) (l .budget - l .made) (state (l .self))))

@@ -1,0 +1,29 @@
+ghost use mathlib.Core.Path.{_≡_};
+ghost use Rattle.survey.specs.Rules.{run as ran};
+ghost use Rattle.survey.specs.State.{state};
+use crate::call::Ended;
+use crate::call::Ran;
+use crate::call::Said;
+use crate::held::Survey;
+use body::body::Body;
+
+impl<A: Body> Survey<A> {
+    // Probes until closed, refused or spent; the probes made before a refused one stay.
+    pub fn run(&mut self, budget: u32) -> Ran
+        ensures held { λ _. ⌜ now (self .exit) .body ≡ now (self .entry) .body ⌝ }
+        ensures tells { λ r. ⌜ r ≡ ran (A·Body .meaning (now (self .entry) .body)) budget (state (now (self .entry))) .tells ⌝ }
+        ensures leaves { λ _. ⌜ state (now (self .exit)) ≡ ran (A·Body .meaning (now (self .entry) .body)) budget (state (now (self .entry))) .leaves ⌝ }
+    {
+        for made in 0..budget {
+            match self.probe() {
+                Ok(said) => match said {
+                    Said::Corner | Said::Settled => {}
+                    Said::Closed => return Ran { made, ended: Ended::Closed },
+                },
+                Err(fault) => return Ran { made, ended: Ended::Refused(fault) },
+            }
+        }
+        let ended = if self.is_closed() { Ended::Closed } else { Ended::Spent };
+        Ran { made: budget, ended }
+    }
+}
