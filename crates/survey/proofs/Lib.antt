@@ -2,3 +2,5 @@ pub mod Inserting
 pub mod Marks
 pub mod Steps
 pub mod Runs
+pub mod Readings
+pub mod Replaying
