@@ -2,7 +2,7 @@ ghost use mathlib.Core.Path.{_≡_};
 ghost use Prim.Native.Nat.{_<_};
 ghost use lib.ListN.{length};
 ghost use Rattle.plane.specs.Plane.{vector};
-ghost use Rattle.plane.specs.Support.{support};
+ghost use Rattle.plane.specs.Support.{Supports};
 ghost use Rattle.body.specs.Set.{reach, first-beyond, points-verdict};
 use plane::direction::Direction;
 use plane::fault::Cause;
@@ -55,7 +55,7 @@ pub(crate) fn judge(points: &[Point], most: u32) -> Result<u32, Fault>
 // The support point of a list in direction u, in one walk over it.
 pub(crate) fn farthest(points: &[Point], u: Direction) -> Point
     requires { ⌜ 0 < length (now points) ⌝ }
-    ensures { λ r. ⌜ r ≡ support (vector u) (now (points .entry)) ⌝ }
+    ensures { λ r. ⌜ Supports (vector u) (now (points .entry)) r ⌝ }
 {
     let mut best = points[0];
     for i in 1..points.len() {

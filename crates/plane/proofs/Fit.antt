@@ -65,12 +65,3 @@ fits-read s x e f = subst (SFits w64) (sym e) f
 
 pub value-read : (s x : ℤ) → s ≡ x → SFits w64 x → toZ w64 (ofZ w64 s) ≡ x
 value-read s x e f = ap (λ (z : ℤ). toZ w64 (ofZ w64 z)) e ∙ toZ-ofZ w64 x f
-
--- the difference of two numbers of 32 bits, taken in 64
-pub wide-difference : (a b : ℤ) → SFits w32 a → SFits w32 b → toZ w64 (ofZ w64 (toZ w64 (ofZ w64 (toZ w32 (ofZ w32 a))) -ℤ toZ w64 (ofZ w64 (toZ w32 (ofZ w32 b))))) ≡ a -ℤ b
-wide-difference a b f g =
-    let h : SFits w64 (a -ℤ b) = omega (arith, ints) in
-    (λ i. toZ w64 (ofZ w64 (wide a f i -ℤ wide b g i))) ∙ toZ-ofZ w64 (a -ℤ b) h
-
-pub turned-difference : (a b : ℤ) → a -ℤ b ≡ negℤ (b -ℤ a)
-turned-difference a b = omega (arith, ints)

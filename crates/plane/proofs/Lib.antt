@@ -3,6 +3,5 @@ pub mod Ring
 pub mod Order
 pub mod Fit
 pub mod Points
-pub mod Farther
 pub mod Apart
 pub mod Supporting

@@ -1,5 +1,5 @@
 -- The support point that is worked out is one, and there is no other.
-use mathlib.Core.Path.{_≡_, refl, sym, subst}
+use mathlib.Core.Path.{_≡_, refl, subst}
 use mathlib.Core.Bool.{Bool, true, false, cond, not, _&&_, _||_}
 use mathlib.Core.List.{List, [], _∷_, _++_}
 use mathlib.Core.Logic.{_⊎_, inl, inr}
@@ -11,14 +11,12 @@ use lib.Signed.{ltZ, _≤ℤ_, _<ℤ_}
 use Rattle.std.specs.shelf.Lists.{All, Has}
 use Rattle.std.proofs.shelf.Elements.{all-has, all-weaker, has-append-right}
 use Rattle.std.proofs.shelf.Signed.{ints}
-use Rattle.std.proofs.shelf.Tests.{or-cases, or-parts, and-parts, and-cases}
 use Rattle.plane.specs.declared.point.Point.{Point}
 use Rattle.plane.specs.declared.direction.Direction.{Direction}
-use Rattle.plane.specs.Plane.{origin, vector, dot, perp, equal}
+use Rattle.plane.specs.Plane.{origin, vector, dot, perp}
 use Rattle.plane.specs.Support.{Not-beyond, Supports, beyond, farthest, support}
 use Rattle.plane.proofs.Laws.{lin}
-use Rattle.plane.proofs.Order.{lt-or-le, le-antisym}
-use Rattle.plane.proofs.Points.{equal-true, equal-yes}
+use Rattle.plane.proofs.Order.{le-antisym}
 use Rattle.plane.proofs.Apart.{apart}
 
 -- a direction is no zero vector
@@ -45,28 +43,11 @@ pub not-beyond-trans : (u p q r : Point) → Not-beyond u p q → Not-beyond u q
 not-beyond-trans u p q r h k = order-trans (dot u p) (dot u q) (dot u r) (dot (perp u) p) (dot (perp u) q) (dot (perp u) r) h k
 
 -- what the test tells, over plain numbers: u·p, u·q, perp(u)·p and perp(u)·q
-test-yes : (f g h k : ℤ) → (ltZ f g || (equal f g && ltZ h k)) ≡ true → (f <ℤ g) ⊎ ((f ≡ g) × (h ≤ℤ k))
-test-yes f g h k t = go (or-cases (ltZ f g) (equal f g && ltZ h k) t)
-  where
-    go : (ltZ f g ≡ true) ⊎ ((equal f g && ltZ h k) ≡ true) → (f <ℤ g) ⊎ ((f ≡ g) × (h ≤ℤ k))
-    go (inl a) = inl (grind (arith, ints))
-    go (inr a) = let b = and-parts (equal f g) (ltZ h k) a in let c : ltZ h k ≡ true = b .1 in inr (equal-true f g (b .0), grind (arith, ints))
+test-yes : (f g h k : ℤ) → (ltZ f g || (not (ltZ g f) && ltZ h k)) ≡ true → (f <ℤ g) ⊎ ((f ≡ g) × (h ≤ℤ k))
+test-yes f g h k t = grind (arith, ints)
 
-test-no : (f g h k : ℤ) → (ltZ f g || (equal f g && ltZ h k)) ≡ false → (g <ℤ f) ⊎ ((g ≡ f) × (k ≤ℤ h))
-test-no f g h k t = go (lt-or-le g f)
-  where
-    apart-or : g ≡ f → (equal f g ≡ false) ⊎ (ltZ h k ≡ false) → k ≤ℤ h
-    apart-or e (inl a) = let b : equal f g ≡ true = equal-yes f g (sym e) in grind (arith, ints)
-    apart-or e (inr a) = grind (arith, ints)
-
-    go : (g <ℤ f) ⊎ (f ≤ℤ g) → (g <ℤ f) ⊎ ((g ≡ f) × (k ≤ℤ h))
-    go (inl l) = inl l
-    go (inr l) =
-        let p = or-parts (ltZ f g) (equal f g && ltZ h k) t in
-        let a : ltZ f g ≡ false = p .0 in
-        let b : g ≤ℤ f = grind (arith, ints) in
-        let e : g ≡ f = le-antisym b l in
-        inr (e, apart-or e (and-cases (equal f g) (ltZ h k) (p .1)))
+test-no : (f g h k : ℤ) → (ltZ f g || (not (ltZ g f) && ltZ h k)) ≡ false → (g <ℤ f) ⊎ ((g ≡ f) × (k ≤ℤ h))
+test-no f g h k t = grind (arith, ints)
 
 pub beyond-yes : (u p q : Point) → beyond u p q ≡ true → Not-beyond u q p
 beyond-yes u p q h = test-yes (dot u p) (dot u q) (dot (perp u) p) (dot (perp u) q) h

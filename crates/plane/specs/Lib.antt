@@ -1,5 +1,5 @@
 pub mod Fault
-pub mod Directed
 pub mod Plane
+pub mod Directed
 pub mod Hull
 pub mod Support

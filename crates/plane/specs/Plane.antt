@@ -17,6 +17,12 @@ origin = point (pos 0) (pos 0)
 abbrev pub vector : Direction → Point
 vector u = point (u .x) (u .y)
 
+abbrev pub east : Point
+east = point (pos 1) (pos 0)
+
+abbrev pub west : Point
+west = point (negsuc 0) (pos 0)
+
 abbrev pub plus : Point → Point → Point
 plus p q = point (p .x +ℤ q .x) (p .y +ℤ q .y)
 

@@ -1,12 +1,12 @@
 -- The support point of a list in a direction: what it is, and how it is worked out.
 use mathlib.Core.Path.{_≡_}
 use mathlib.Core.Logic.{_⊎_}
-use mathlib.Core.Bool.{Bool, cond, _&&_, _||_}
+use mathlib.Core.Bool.{Bool, cond, not, _&&_, _||_}
 use mathlib.Core.List.{List, [], _∷_}
 use lib.Signed.{ltZ, _≤ℤ_, _<ℤ_}
 use Rattle.std.specs.shelf.Lists.{All, Has}
 use Rattle.plane.specs.declared.point.Point.{Point}
-use Rattle.plane.specs.Plane.{origin, dot, perp, equal}
+use Rattle.plane.specs.Plane.{origin, dot, perp}
 
 -- q has no greater u·q than p and, where it is as great, no greater perp(u)·q
 abbrev pub Not-beyond : Point → Point → Point → Type 0
@@ -17,9 +17,9 @@ pub record Supports (u : Point) (ps : List Point) (p : Point) : Type 0 where
   pub listed : Has ps p
   pub greatest : All (Not-beyond u p) ps
 
--- whether q has a greater u·q than p or, where it is as great, a greater perp(u)·q
+-- whether u·q is greater than u·p or, where it is not less either, perp(u)·q is greater than perp(u)·p
 abbrev pub beyond : Point → Point → Point → Bool
-beyond u p q = ltZ (dot u p) (dot u q) || (equal (dot u p) (dot u q) && ltZ (dot (perp u) p) (dot (perp u) q))
+beyond u p q = ltZ (dot u p) (dot u q) || (not (ltZ (dot u q) (dot u p)) && ltZ (dot (perp u) p) (dot (perp u) q))
 
 -- the farthest of p and the points of the list
 abbrev pub farthest : Point → Point → List Point → Point

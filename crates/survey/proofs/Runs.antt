@@ -48,7 +48,7 @@ still-answered s u (Ok p) = go (s .found)
 still-probed : (m : Meaning) (s : State) → Still s (probe m s)
 still-probed m s =
     cond-both (closed s) _ _ (Still s) (λ e. still-unchanged s (Ok Closed))
-    (λ e. cond-both (directed (question (s .found) .x) (question (s .found) .y)) _ _ (Still s) (λ k. still-answered s (question (s .found)) (answer m (question (s .found)))) (λ k. still-unchanged s (Err no-direction)))
+    (λ e. cond-both (directed (question (s .found))) _ _ (Still s) (λ k. still-answered s (question (s .found)) (answer m (question (s .found)))) (λ k. still-unchanged s (Err no-direction)))
 
 pub closed-still : (m : Meaning) (s : State) → Ok Closed ≡ probe m s .says → probe m s .leaves ≡ s
 closed-still m s e = go (still-probed m s)

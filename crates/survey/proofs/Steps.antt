@@ -8,7 +8,6 @@ use mathlib.Core.List.{List, [], _∷_}
 use mathlib.Core.Path.{_≡_, refl, ap, sym, _∙_}
 use Rattle.std.specs.declared.result.Result.{Result}
 use Rattle.std.specs.declared.result.Result.the-variants.{Ok, Err}
-use Rattle.std.specs.Results.{Cases, isOk}
 use Rattle.std.specs.shelf.Lists.{inserted}
 use Rattle.std.proofs.shelf.Lists.{length-take-le, nil-from-length}
 use Rattle.std.proofs.shelf.Tests.{lt-ltb, le-ltb, le-leb, and-from, cond-true, cond-false}
@@ -27,7 +26,7 @@ use Rattle.survey.specs.declared.call.Corner.{Corner}
 use Rattle.survey.specs.declared.call.Said.the-variants.{Corner as a-corner, Closed}
 use Rattle.survey.specs.Rules.{State, Found, Probed, closed, question, first-open, edge-start, edge-end, take-in, unchanged, settle, settling, about-edge, by-point, by-answer, asks, probe}
 use Rattle.survey.specs.declared.held.Survey.{Survey}
-use Rattle.survey.specs.State.{mark, found-by, marked, state, Asks}
+use Rattle.survey.specs.State.{mark, found-by, marked, state}
 use Rattle.survey.proofs.Marks.{open-edge, length-front, first-open-marked, inserted-marked, settle-marked}
 
 pub no-room : (s : State) (i : ℕ) (u p : Point) → 256 ≤ length (s .found) → take-in s i u p ≡ unchanged s (Err (fault TooManyCorners 0))
@@ -56,12 +55,8 @@ question-front n k cs p q h some w e f =
     ∙ ap (λ (i : ℕ). normal (edge-start (marked n (take k cs)) i) (edge-end (marked n (take k cs)) i)) (first-open-marked n (take k cs) (omega (arith, length-take-le k cs h)))
     ∙ (λ i. normal (e i) (f i))
 
-pub asks-normal : (u p q : Point) (r : Result Direction Fault) → u ≡ normal p q → isOk r ≡ directed (normal p q .x) (normal p q .y) → Cases r (λ d. vector d ≡ normal p q) (λ e. e ≡ no-direction) → Asks u r
-asks-normal u p q (Ok d) e a h = h ∙ sym e
-asks-normal u p q (Err f) e a h = (ap (λ (v : Point). directed (v .x) (v .y)) e ∙ sym a, h)
-
 -- a direction is made of two numbers that make one
-pub directed-yes : (d : Direction) → directed (d .x) (d .y) ≡ true
+pub directed-yes : (d : Direction) → directed (vector d) ≡ true
 directed-yes d = and-from _ _ (lt-ltb 0 (natAbs (d .x) + natAbs (d .y)) (d .some)) (and-from _ _ (le-leb (natAbs (d .x)) 2000000 (d .wide)) (le-leb (natAbs (d .y)) 2000000 (d .high)))
 
 -- ---- a probe, by what the body answers
@@ -69,7 +64,7 @@ directed-yes d = and-from _ _ (lt-ltb 0 (natAbs (d .x) + natAbs (d .y)) (d .some
 pub probe-closed : (m : Meaning) (s : State) → closed s ≡ true → probe m s ≡ unchanged s (Ok Closed)
 probe-closed m s h = cond-true _ _ _ h
 
-pub probe-no-direction : (m : Meaning) (s : State) → closed s ≡ false → directed (question (s .found) .x) (question (s .found) .y) ≡ false → probe m s ≡ unchanged s (Err no-direction)
+pub probe-no-direction : (m : Meaning) (s : State) → closed s ≡ false → directed (question (s .found)) ≡ false → probe m s ≡ unchanged s (Err no-direction)
 probe-no-direction m s h k = cond-false _ _ _ h ∙ cond-false _ _ _ k
 
 pub probe-asked : (m : Meaning) (s : State) (d : Direction) (r : Result Point Fault) → closed s ≡ false → vector d ≡ question (s .found) → Answers m (vector d) r → probe m s ≡ by-answer s (vector d) r

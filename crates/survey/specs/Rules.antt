@@ -3,7 +3,6 @@ use mathlib.Core.Bool.{Bool, true, false, cond, _&&_}
 use mathlib.Core.List.{List, [], _∷_, map}
 use Prim.Native.Nat.{ℕ, zero, suc, _+_}
 use lib.Dec.{ltb}
-use lib.IntN.{pos, negsuc}
 use lib.ListN.{length, getD}
 use Rattle.std.specs.declared.result.Result.{Result}
 use Rattle.std.specs.declared.result.Result.the-variants.{Ok, Err}
@@ -13,7 +12,7 @@ use Rattle.plane.specs.declared.fault.Fault.{Fault}
 use Rattle.plane.specs.declared.point.Point.{Point}
 use Rattle.plane.specs.Directed.{directed, no-direction}
 use Rattle.plane.specs.Fault.{fault}
-use Rattle.plane.specs.Plane.{point, origin, normal, same}
+use Rattle.plane.specs.Plane.{origin, east, west, normal, same}
 use Rattle.body.specs.Meaning.{Meaning, answer}
 use Rattle.survey.specs.declared.call.Said.{Said}
 use Rattle.survey.specs.declared.call.Said.the-variants.{Corner, Settled, Closed}
@@ -53,12 +52,6 @@ abbrev pub closed : State → Bool
 closed s = closed-list (s .found)
 
 -- ---- what a probe asks
-
-abbrev pub east : Point
-east = point (pos 1) (pos 0)
-
-abbrev pub west : Point
-west = point (negsuc 0) (pos 0)
 
 -- the number of the first open edge
 abbrev pub first-open : List Found → ℕ
@@ -125,7 +118,7 @@ by-answer s u (Err f) = unchanged s (Err f)
 
 -- two ends that make no direction refuse the probe
 abbrev pub asks : Meaning → State → Point → Probed
-asks m s u = cond (directed (u .x) (u .y)) (by-answer s u (answer m u)) (unchanged s (Err no-direction))
+asks m s u = cond (directed u) (by-answer s u (answer m u)) (unchanged s (Err no-direction))
 
 abbrev pub probe : Meaning → State → Probed
 probe m s = cond (closed s) (unchanged s (Ok Closed)) (asks m s (question (s .found)))

@@ -1,15 +1,9 @@
 -- What a survey holds, read off the struct.
 use mathlib.Core.Bool.{Bool, true, false}
 use mathlib.Core.List.{List, [], _∷_}
-use mathlib.Core.Path.{_≡_}
 use Prim.Native.Nat.{ℕ, zero, suc}
 use lib.ListN.{take}
-use Rattle.std.specs.declared.result.Result.{Result}
-use Rattle.std.specs.declared.result.Result.the-variants.{Ok, Err}
-use Rattle.plane.specs.declared.direction.Direction.{Direction}
-use Rattle.plane.specs.declared.fault.Fault.{Fault}
 use Rattle.plane.specs.declared.point.Point.{Point}
-use Rattle.plane.specs.Directed.{directed, no-direction}
 use Rattle.plane.specs.Plane.{vector}
 use Rattle.survey.specs.declared.call.Corner.{Corner}
 use Rattle.survey.specs.declared.held.Survey.{Survey}
@@ -30,8 +24,3 @@ marked (suc n) (c ∷ cs) = mark true c ∷ marked n cs
 
 abbrev pub state : {A : Type 0} → Survey A → State
 state s = record { found = marked (s .settled) (take (s .count) (s .corners)); probes = s .probes }
-
--- a direction for the question u, or a refusal where u is none
-abbrev pub Asks : Point → Result Direction Fault → Type 0
-Asks u (Ok d) = vector d ≡ u
-Asks u (Err e) = (directed (u .x) (u .y) ≡ false) × (e ≡ no-direction)

@@ -1,8 +1,9 @@
 ghost use mathlib.Core.Path.{_≡_};
 ghost use mathlib.Core.Bool.{Bool, false};
 ghost use Prim.Native.Nat.{_+_, _<_, _≤_};
-ghost use Rattle.survey.specs.Rules.{opened, closed, question, first-open, edge-end, probe as probed, take-in, settling};
-ghost use Rattle.survey.specs.State.{state, Asks, found-by};
+ghost use Rattle.plane.specs.Directed.{Makes};
+ghost use Rattle.survey.specs.Rules.{opened, closed, question, edge-end, probe as probed, take-in, settling};
+ghost use Rattle.survey.specs.State.{state, found-by};
 use crate::call::Corner;
 use crate::call::Said;
 use crate::held::Survey;
@@ -35,7 +36,7 @@ impl<A> Survey<A> {
     }
 
     // Whether there is a corner and no open edge.
-    pub fn is_closed(&self) -> bool
+    pub(crate) fn is_closed(&self) -> bool
         ensures { λ r. ⌜ r ≡ closed (state (now (self .entry))) ⌝ }
     {
         self.count > 0 && self.settled == self.count
@@ -57,7 +58,7 @@ impl<A> Survey<A> {
     // What the next probe asks.
     fn question(&self) -> Result<Direction, Fault>
         requires { ⌜ closed (state (now self)) ≡ false ⌝ }
-        ensures { λ r. ⌜ Asks (question (state (now (self .entry)) .found)) r ⌝ }
+        ensures { λ r. ⌜ Makes (question (state (now (self .entry)) .found)) r ⌝ }
     {
         if self.count == 0 {
             return Ok(Direction::east());

@@ -1,6 +1,10 @@
+ghost use mathlib.Core.List.{_++_};
 ghost use mathlib.Core.Path.{_≡_};
+ghost use Prim.Native.Nat.{_≤_, _<_};
+ghost use lib.ListN.{length, getD, drop};
 ghost use Rattle.survey.specs.Calls.{read-counts, read-corner, read-outline, corner-told};
-ghost use Rattle.survey.specs.State.{state};
+ghost use Rattle.survey.specs.Rules.{corners as corners-of, nothing};
+ghost use Rattle.survey.specs.State.{state, found-by};
 use crate::call::Corner;
 use crate::call::Counts;
 use crate::held::Survey;
@@ -9,11 +13,38 @@ use plane::fault::Fault;
 use plane::point::Point;
 
 impl<A> Survey<A> {
+    // How many corners are found.
+    fn found(&self) -> usize
+        ensures value { λ r. ⌜ r ≡ now (self .entry) .count ⌝ }
+        ensures listed { λ r. ⌜ r ≡ length (state (now (self .entry)) .found) ⌝ }
+    {
+        self.count
+    }
+
+    // Corner i, which is found.
+    fn corner_at(&self, i: usize) -> Corner
+        requires { ⌜ i < now self .count ⌝ }
+        ensures place { λ r. ⌜ r .at ≡ getD (state (now (self .entry)) .found) i nothing .corner ⌝ }
+        ensures asked { λ r. ⌜ found-by r ≡ getD (state (now (self .entry)) .found) i nothing .asked ⌝ }
+    {
+        self.corners[i]
+    }
+
+    // Writes the corners into the first slots of `out`, which has enough.
+    fn write_corners(&self, out: &mut [Point])
+        requires { ⌜ now self .count ≤ length (now out) ⌝ }
+        ensures { λ _. ⌜ now (out .exit) ≡ corners-of (state (now (self .entry))) ++ drop (length (state (now (self .entry)) .found)) (now (out .entry)) ⌝ }
+    {
+        for i in 0..self.count {
+            out[i] = self.corners[i].at;
+        }
+    }
+
     pub fn counts(&self) -> Counts
         ensures { λ r. ⌜ r ≡ read-counts (state (now (self .entry))) ⌝ }
     {
         Counts {
-            corners: self.count,
+            corners: self.found(),
             probes: self.probes,
         }
     }
@@ -22,10 +53,10 @@ impl<A> Survey<A> {
     pub fn corner(&self, i: usize) -> Result<Corner, Fault>
         ensures { λ r. ⌜ corner-told r ≡ read-corner (state (now (self .entry))) i ⌝ }
     {
-        if i >= self.count {
+        if i >= self.found() {
             return Err(Fault::new(Cause::NoSuchCorner, 0));
         }
-        Ok(self.corners[i])
+        Ok(self.corner_at(i))
     }
 
     // Writes the corners of a closed survey into the first slots of `out`, and tells how many they are.
@@ -36,12 +67,10 @@ impl<A> Survey<A> {
         if !self.is_closed() {
             return Err(Fault::new(Cause::NotClosed, 0));
         }
-        if out.len() < self.count {
+        if out.len() < self.found() {
             return Err(Fault::new(Cause::BufferTooShort, 0));
         }
-        for i in 0..self.count {
-            out[i] = self.corners[i].at;
-        }
-        Ok(self.count)
+        self.write_corners(out);
+        Ok(self.found())
     }
 }

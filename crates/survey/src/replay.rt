@@ -1,5 +1,5 @@
 ghost use mathlib.Core.Path.{_≡_};
-ghost use Rattle.survey.specs.Calls.{make as made, stand, telling, surveyed, all-told, calls-of, told-of, each-told};
+ghost use Rattle.survey.specs.Calls.{make as made, stand, telling, leaves-from, tells-from, surveyed, all-told, calls-of, told-of, each-told};
 use crate::call::Call;
 use crate::call::Entry;
 use crate::call::Told;
@@ -9,7 +9,7 @@ use plane::point::Point;
 
 impl<A: Body> Survey<A> {
     // Makes one call; an outline is read into the first slots of the buffer.
-    pub fn make(&mut self, call: Call, buffer: &mut [Point]) -> Told
+    fn make(&mut self, call: Call, buffer: &mut [Point]) -> Told
         ensures held { λ _. ⌜ now (self .exit) .body ≡ now (self .entry) .body ⌝ }
         ensures tells { λ r. ⌜ telling r ≡ made (A·Body .meaning (now (self .entry) .body)) (stand (now (self .entry)) (now (buffer .entry))) call .tells ⌝ }
         ensures leaves { λ _. ⌜ stand (now (self .exit)) (now (buffer .exit)) ≡ made (A·Body .meaning (now (self .entry) .body)) (stand (now (self .entry)) (now (buffer .entry))) call .leaves ⌝ }
@@ -25,6 +25,20 @@ impl<A: Body> Survey<A> {
             }
         }
     }
+
+    // Makes the calls of a log, in its order; each entry keeps what its call told.
+    fn make_all(&mut self, log: &mut [Entry], buffer: &mut [Point])
+        ensures held { λ _. ⌜ now (self .exit) .body ≡ now (self .entry) .body ⌝ }
+        ensures calls { λ _. ⌜ calls-of (now (log .exit)) ≡ calls-of (now (log .entry)) ⌝ }
+        ensures tells { λ _. ⌜ told-of (now (log .exit)) ≡ each-told (tells-from (A·Body .meaning (now (self .entry) .body)) (stand (now (self .entry)) (now (buffer .entry))) (calls-of (now (log .entry)))) ⌝ }
+        ensures leaves { λ _. ⌜ stand (now (self .exit)) (now (buffer .exit)) ≡ leaves-from (A·Body .meaning (now (self .entry) .body)) (stand (now (self .entry)) (now (buffer .entry))) (calls-of (now (log .entry))) ⌝ }
+    {
+        for i in 0..log.len() {
+            let call = log[i].call;
+            let told = Some(self.make(call, buffer));
+            log[i] = Entry { call, told };
+        }
+    }
 }
 
 // Makes the calls of a log, in its order, on a survey of the body from its opening; each entry keeps what its call told.
@@ -35,10 +49,6 @@ pub fn replay<A: Body>(body: A, log: &mut [Entry], buffer: &mut [Point]) -> Surv
     ensures leaves { λ r. ⌜ stand r (now (buffer .exit)) ≡ surveyed (A·Body .meaning body) (now (buffer .entry)) (calls-of (now (log .entry))) ⌝ }
 {
     let mut survey = Survey::open(body);
-    for i in 0..log.len() {
-        let call = log[i].call;
-        let told = Some(survey.make(call, buffer));
-        log[i] = Entry { call, told };
-    }
+    survey.make_all(log, buffer);
     survey
 }

@@ -1,9 +1,10 @@
 use mathlib.Core.Bool.{cond}
-use mathlib.Core.Path.{_≡_, refl, sym, _∙_}
+use mathlib.Core.Path.{_≡_, refl, sym, _∙_, subst}
 use lib.ListN.{getD}
 use Rattle.std.proofs.shelf.Tests.{cond-true, cond-false}
 use Rattle.plane.specs.Plane.{vector, origin}
-use Rattle.plane.specs.Support.{beyond}
+use Rattle.plane.specs.Support.{Supports, beyond, support}
+use Rattle.plane.proofs.Supporting.{support-supports}
 use Rattle.body.proofs.Walks.{farthest-more, farthest-all, farthest-none}
 use Rattle.body.proofs.reach.farthest.Needs as need
 use Rattle.body.proofs.reach.farthest.Needs.{then-beyond, else-beyond}
@@ -21,4 +22,7 @@ loop-i-again c =
     farthest-more (vector (c .args .u)) (c .args .points .now) (c .loop-i .i) (c .loop-i .best) p (c .if-beyond .best) _ (c .loop-i-test .taken) refl best (c .loop-i .inv)
 
 pub returns : need.returns
-returns c = farthest-all (vector (c .args .u)) (c .args .points .now) (c .loop-i .i) (c .loop-i .best) _ (c .loop-i-test .left) (c .loop-i .inv)
+returns c =
+    let u = vector (c .args .u) in
+    let ps = c .args .points .now in
+    subst (Supports u ps) (sym (farthest-all u ps (c .loop-i .i) (c .loop-i .best) (support u ps) (c .loop-i-test .left) (c .loop-i .inv))) (support-supports u ps (c .pre))

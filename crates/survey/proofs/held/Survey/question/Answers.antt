@@ -1,10 +1,10 @@
-use mathlib.Core.Path.{sym}
+use mathlib.Core.Path.{sym, subst}
 use lib.ListN.{getD}
 use native.Mathlib.Omega.{arith}
-use Rattle.survey.specs.Rules.{question}
-use Rattle.survey.specs.State.{state}
+use Rattle.plane.specs.declared.point.Point.{Point}
+use Rattle.plane.specs.Directed.{Makes}
 use Rattle.survey.proofs.Marks.{corner-front}
-use Rattle.survey.proofs.Steps.{open-survey, question-front, asks-normal}
+use Rattle.survey.proofs.Steps.{open-survey, question-front}
 use Rattle.survey.proofs.held.Survey.question.Needs as need
 
 pub listed : need.listed
@@ -23,4 +23,4 @@ returns g c =
     let q = c .edge-end .result in
     let start = corner-front (s .settled) (s .count) (s .corners) (s .settled) (c .index-self-self .result) (omega arith) (open-survey s (c .pre) (omega arith)) in
     let asked = question-front (s .settled) (s .count) (s .corners) p q (omega arith) (omega arith) (s .within) start (sym (c .edge-end .ensures)) in
-    asks-normal (question (state s .found)) p q (c .normal .result) asked (c .normal .ensures .accepts) (c .normal .ensures .value)
+    subst (λ (u : Point). Makes u (c .normal .result)) (sym asked) (c .normal .ensures)

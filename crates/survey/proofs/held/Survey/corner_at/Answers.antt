@@ -1,0 +1,12 @@
+use mathlib.Core.Path.{sym}
+use native.Mathlib.Omega.{arith}
+use Rattle.survey.proofs.Marks.{corner-front, asked-front}
+use Rattle.survey.proofs.held.Survey.corner_at.Needs as need
+
+pub returns : need.returns
+returns g c =
+    let s = c .args .self .now in
+    record {
+      place = sym (corner-front (s .settled) (s .count) (s .corners) (c .args .i) (c .index-self-i .result) (omega arith) (c .pre));
+      asked = sym (asked-front (s .settled) (s .count) (s .corners) (c .args .i) (c .index-self-i .result) (omega arith) (c .pre));
+    }

@@ -1,7 +1,0 @@
-use mathlib.Core.List.{_++_, map}
-use mathlib.Core.Path.{_≡_}
-use lib.ListN.{take, drop}
-use Rattle.survey.proofs.held.Survey.outline.Given as given
-
-abbrev pub Inv-loop-i : given.InvT-loop-i
-Inv-loop-i g l = l .out ≡ map (λ c. c .at) (take (l .i) (l .self .corners)) ++ drop (l .i) (l .entry .out)
