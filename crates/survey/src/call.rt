@@ -3,9 +3,13 @@ use plane::fault::Fault;
 use plane::fault::FaultDebug;
 use plane::fault::FaultPartialEq;
 use plane::point::Point;
+use plane::direction::DirectionDebug;
+use plane::direction::DirectionPartialEq;
+use plane::point::PointDebug;
+use plane::point::PointPartialEq;
 
 // A corner, with the direction that found it.
-#[derive(Clone, Copy)]
+#[derive(Clone, Copy, PartialEq, Eq, Debug)]
 pub struct Corner {
     pub at: Point,
     pub asked: Direction,
@@ -42,7 +46,7 @@ pub struct Counts {
 }
 
 // A call on a survey; the outline is read into so many slots of a lent buffer.
-#[derive(Clone, Copy)]
+#[derive(Clone, Copy, PartialEq, Eq, Debug)]
 pub enum Call {
     Probe,
     Run(u32),
@@ -52,7 +56,7 @@ pub enum Call {
 }
 
 // What a call told.
-#[derive(Clone, Copy)]
+#[derive(Clone, Copy, PartialEq, Eq, Debug)]
 pub enum Told {
     Probe(Result<Said, Fault>),
     Run(Ran),
@@ -62,7 +66,7 @@ pub enum Told {
 }
 
 // A call, and what it told once it is made.
-#[derive(Clone, Copy)]
+#[derive(Clone, Copy, PartialEq, Eq, Debug)]
 pub struct Entry {
     pub call: Call,
     pub told: Option<Told>,
