@@ -1,3 +1,7 @@
+ghost use mathlib.Core.Path.{_≡_};
+ghost use Rattle.survey.specs.Rules.{until-closed};
+ghost use Rattle.survey.specs.State.{state};
+ghost use Rattle.lemburat.specs.Outline.{outline-of, counts-of};
 use body::body::Body;
 use body::set::Set;
 use body::set::SetBody;
@@ -6,6 +10,7 @@ use plane::point::Point;
 use std::io;
 use survey::call::Counts;
 use survey::call::Ended;
+use survey::call::Ran;
 use survey::held::Survey;
 
 // A rectangle of 2 by 1 whose upper side is measured at its middle too.
@@ -20,10 +25,23 @@ const SAMPLE: [Point; 5] = [
 // No survey makes more probes: each finds one of 256 corners or settles one of 256 edges.
 const PROBES: u32 = 512;
 
-// Surveys the body until closed, and writes its corners into the first slots.
-fn outline<A: Body + Drop>(body: A, slots: &mut [Point]) -> Result<Counts, Fault> {
+// Surveys the body from an opening until closed or refused.
+fn surveyed<A: Body>(body: A) -> (Survey<A>, Ran)
+    ensures tells { λ r. ⌜ r .1 ≡ until-closed (A·Body .meaning body) .tells ⌝ }
+    ensures leaves { λ r. ⌜ state (r .0) ≡ until-closed (A·Body .meaning body) .leaves ⌝ }
+{
     let mut survey = Survey::open(body);
-    if let Ended::Refused(fault) = survey.run(PROBES).ended {
+    let told = survey.run(PROBES);
+    (survey, told)
+}
+
+// Surveys the body until closed, and writes its corners into the first slots.
+fn outline<A: Body + Drop>(body: A, slots: &mut [Point]) -> Result<Counts, Fault>
+    ensures tells { λ r. ⌜ r ≡ counts-of (A·Body .meaning body) (now (slots .entry)) ⌝ }
+    ensures writes { λ _. ⌜ now (slots .exit) ≡ outline-of (A·Body .meaning body) (now (slots .entry)) .buffer ⌝ }
+{
+    let (survey, told) = surveyed(body);
+    if let Ended::Refused(fault) = told.ended {
         return Err(fault);
     }
     survey.outline(slots)?;
@@ -40,6 +58,12 @@ fn main(rt: LibcRuntime) -> io::Result<()> {
             }
             Ok(())
         }
-        Err(fault) => println!(rt, "refused {} {} {}", fault.cause.number(), fault.place, fault.layer),
+        Err(fault) => println!(
+            rt,
+            "refused {} {} {}",
+            fault.cause.number(),
+            fault.place,
+            fault.layer
+        ),
     }
 }

@@ -11,7 +11,7 @@ use Rattle.plane.specs.Plane.{point, same}
 use Rattle.body.specs.Set.{set-meaning}
 use Rattle.survey.specs.declared.call.Ended.{Ended}
 use Rattle.survey.specs.declared.call.Ended.the-variants as ended
-use Rattle.survey.specs.Rules.{State, Run, opened, corners, run}
+use Rattle.survey.specs.Rules.{State, corners, until-closed}
 
 pub data Run-of : Type 0 where
   outlines : List Point → List Point → ℕ → Run-of  -- the points, the corners and the probes
@@ -50,13 +50,9 @@ refused-as c p l ended.Closed = false
 refused-as c p l ended.Spent = false
 refused-as c p l (ended.Refused f) = eqb c (number (f .cause)) && (eqb p (f .place) && eqb l (f .layer))
 
--- a run long enough for any survey
-abbrev pub survey-of : List Point → Run
-survey-of ps = run (set-meaning ps) 512 opened
-
 abbrev pub right : Run-of → Bool
-right (outlines ps cs n) = let r = survey-of ps in closes-as cs n (r .leaves) (r .tells .ended)
-right (refuses ps c p l) = refused-as c p l (survey-of ps .tells .ended)
+right (outlines ps cs n) = let r = until-closed (set-meaning ps) in closes-as cs n (r .leaves) (r .tells .ended)
+right (refuses ps c p l) = refused-as c p l (until-closed (set-meaning ps) .tells .ended)
 
 abbrev pub all-right : List Run-of → Bool
 all-right [] = true

@@ -33,7 +33,10 @@ fn refuses(points: &[Point], cause: Cause, place: u32) -> Result<(), Fail> {
     check_eq(survey.probe(), Err(fault))?;
     let ended = Ended::Refused(fault);
     check_eq(survey.run(5), Ran { made: 0, ended })?;
-    let counts = Counts { corners: 0, probes: 0 };
+    let counts = Counts {
+        corners: 0,
+        probes: 0,
+    };
     check_eq(survey.counts(), counts)
 }
 
@@ -41,7 +44,18 @@ fn refuses(points: &[Point], cause: Cause, place: u32) -> Result<(), Fail> {
 fn faulty_sets() -> Result<(), Fail> {
     refuses(&[], Cause::NoPoints, 0)?;
     refuses(&[ORIGIN; 1025], Cause::TooManyPoints, 1024)?;
-    refuses(&[ORIGIN, Point { x: 1_000_001, y: 0 }, Point { x: 0, y: -1_000_001 }], Cause::BeyondReach, 1)?;
+    refuses(
+        &[
+            ORIGIN,
+            Point { x: 1_000_001, y: 0 },
+            Point {
+                x: 0,
+                y: -1_000_001,
+            },
+        ],
+        Cause::BeyondReach,
+        1,
+    )?;
     refuses(&[Point { x: 7, y: i32::MIN }], Cause::BeyondReach, 0)?;
     let mut many = [ORIGIN; 1025];
     many[2] = Point { x: 2_000_000, y: 0 };
@@ -53,7 +67,13 @@ fn reach() -> Result<(), Fail> {
     let most = [ORIGIN; 1024];
     let set = Set::new(&most);
     check_eq(set.verdict(), Ok(0))?;
-    let points = [Point { x: 3, y: -8 }, Point { x: -1_000_000, y: 4 }];
+    let points = [
+        Point { x: 3, y: -8 },
+        Point {
+            x: -1_000_000,
+            y: 4,
+        },
+    ];
     let wide = Set::new(&points);
     check_eq(wide.verdict(), Ok(1_000_000))
 }
@@ -61,7 +81,12 @@ fn reach() -> Result<(), Fail> {
 // In direction (0, 1) three points tie; perp(0, 1) = (-1, 0) prefers the leftmost.
 #[test]
 fn ties() -> Result<(), Fail> {
-    let points = [Point { x: 1, y: 1 }, Point { x: 0, y: 1 }, Point { x: 2, y: 1 }, ORIGIN];
+    let points = [
+        Point { x: 1, y: 1 },
+        Point { x: 0, y: 1 },
+        Point { x: 2, y: 1 },
+        ORIGIN,
+    ];
     let set = Set::new(&points);
     check_eq(set.support(Direction::new(0, 1)?), Ok(Point { x: 0, y: 1 }))?;
     check_eq(set.support(Direction::new(0, -3)?), Ok(ORIGIN))?;

@@ -26,12 +26,16 @@ pub impl<B: Body> Body for Counted<'_, B> as CountedBody {
     ghost bounded = { λ c. B·Body .bounded (c .part) };
 
     fn verdict(&self) -> Result<u32, Fault> {
-        self.asked.verdicts.set(self.asked.verdicts.get().wrapping_add(1));
+        self.asked
+            .verdicts
+            .set(self.asked.verdicts.get().wrapping_add(1));
         self.part.verdict()
     }
 
     fn support(&self, u: Direction) -> Result<Point, Fault> {
-        self.asked.supports.set(self.asked.supports.get().wrapping_add(1));
+        self.asked
+            .supports
+            .set(self.asked.supports.get().wrapping_add(1));
         self.part.support(u)
     }
 }

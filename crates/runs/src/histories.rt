@@ -44,14 +44,56 @@ fn budgets() -> Result<(), Fail> {
     let mut survey = Survey::open(Set::new(&SQUARE));
     let spent = Ended::Spent;
     let closed = Ended::Closed;
-    check_eq(survey.run(0), Ran { made: 0, ended: spent })?;
-    check_eq(survey.run(1), Ran { made: 1, ended: spent })?;
-    check_eq(survey.run(6), Ran { made: 6, ended: spent })?;
-    check_eq(survey.run(1), Ran { made: 1, ended: closed }).note("closed goes before spent")?;
-    check_eq(survey.run(0), Ran { made: 0, ended: closed })?;
-    check_eq(survey.run(9), Ran { made: 0, ended: closed })?;
+    check_eq(
+        survey.run(0),
+        Ran {
+            made: 0,
+            ended: spent,
+        },
+    )?;
+    check_eq(
+        survey.run(1),
+        Ran {
+            made: 1,
+            ended: spent,
+        },
+    )?;
+    check_eq(
+        survey.run(6),
+        Ran {
+            made: 6,
+            ended: spent,
+        },
+    )?;
+    check_eq(
+        survey.run(1),
+        Ran {
+            made: 1,
+            ended: closed,
+        },
+    ).note("closed goes before spent")?;
+    check_eq(
+        survey.run(0),
+        Ran {
+            made: 0,
+            ended: closed,
+        },
+    )?;
+    check_eq(
+        survey.run(9),
+        Ran {
+            made: 0,
+            ended: closed,
+        },
+    )?;
     let mut whole = Survey::open(Set::new(&SQUARE));
-    check_eq(whole.run(u32::MAX), Ran { made: 8, ended: closed })
+    check_eq(
+        whole.run(u32::MAX),
+        Ran {
+            made: 8,
+            ended: closed,
+        },
+    )
 }
 
 #[test]
@@ -63,7 +105,9 @@ fn read_into(out: &mut [Point]) -> Result<(), Fail> {
     let mut survey = Survey::open(Set::new(&SQUARE));
     let missing = Fault::new(Cause::NoSuchCorner, 0);
     check_eq(survey.corner(0), Err(missing))?;
-    check_eq(survey.outline(out), Err(Fault::new(Cause::NotClosed, 0))).note("open goes before too short")?;
+    check_eq(survey.outline(out), Err(Fault::new(Cause::NotClosed, 0))).note(
+        "open goes before too short",
+    )?;
     check_eq(survey.probe(), Ok(Said::Corner))?;
     let first = Corner {
         at: Point { x: 2, y: 2 },
@@ -72,7 +116,10 @@ fn read_into(out: &mut [Point]) -> Result<(), Fail> {
     check_eq(survey.corner(0), Ok(first))?;
     check_eq(survey.corner(1), Err(missing))?;
     check_eq(survey.run(100).made, 7)?;
-    check_eq(survey.outline(out), Err(Fault::new(Cause::BufferTooShort, 0)))?;
+    check_eq(
+        survey.outline(out),
+        Err(Fault::new(Cause::BufferTooShort, 0)),
+    )?;
     check_eq(out.first().copied(), Some(MARK))?;
     check_eq(survey.corner(4), Err(missing))
 }
@@ -105,19 +152,49 @@ fn history() -> Result<(), Fail> {
 
 fn follow(log: &mut [Entry], buffer: &mut [Point]) -> Result<(), Fail> {
     let survey = replay(Set::new(&SQUARE), log, buffer);
-    check_eq(told(log, 0), Some(Told::Counts(Counts { corners: 0, probes: 0 })))?;
-    check_eq(told(log, 1), Some(Told::Run(Ran { made: 2, ended: Ended::Spent })))?;
+    check_eq(
+        told(log, 0),
+        Some(Told::Counts(Counts {
+            corners: 0,
+            probes: 0,
+        })),
+    )?;
+    check_eq(
+        told(log, 1),
+        Some(Told::Run(Ran {
+            made: 2,
+            ended: Ended::Spent,
+        })),
+    )?;
     let second = Corner {
         at: Point { x: 0, y: 0 },
         asked: Direction::west(),
     };
     check_eq(told(log, 2), Some(Told::Corner(Ok(second))))?;
-    check_eq(told(log, 3), Some(Told::Outline(Err(Fault::new(Cause::NotClosed, 0)))))?;
-    check_eq(told(log, 4), Some(Told::Run(Ran { made: 6, ended: Ended::Closed })))?;
+    check_eq(
+        told(log, 3),
+        Some(Told::Outline(Err(Fault::new(Cause::NotClosed, 0)))),
+    )?;
+    check_eq(
+        told(log, 4),
+        Some(Told::Run(Ran {
+            made: 6,
+            ended: Ended::Closed,
+        })),
+    )?;
     check_eq(told(log, 5), Some(Told::Probe(Ok(Said::Closed))))?;
-    check_eq(told(log, 6), Some(Told::Outline(Err(Fault::new(Cause::BufferTooShort, 0)))))?;
+    check_eq(
+        told(log, 6),
+        Some(Told::Outline(Err(Fault::new(Cause::BufferTooShort, 0)))),
+    )?;
     check_eq(told(log, 7), Some(Told::Outline(Ok(4))))?;
-    check_eq(told(log, 8), Some(Told::Counts(Counts { corners: 4, probes: 8 })))?;
+    check_eq(
+        told(log, 8),
+        Some(Told::Counts(Counts {
+            corners: 4,
+            probes: 8,
+        })),
+    )?;
     check_eq(survey.counts().corners, 4)?;
     check_eq(buffer.get(1).copied(), Some(Point { x: 0, y: 2 }))?;
     check_eq(buffer.get(4).copied(), Some(MARK))

@@ -1,11 +1,10 @@
-pub mod counted;
-pub mod worked;
-
 #[cfg(test)]
 mod bodies;
+pub mod counted;
 #[cfg(test)]
 mod histories;
 #[cfg(test)]
 mod outlines;
 #[cfg(test)]
 mod plane_tests;
+pub mod worked;

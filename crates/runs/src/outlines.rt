@@ -1,8 +1,8 @@
-use body::set::Set;
-use body::set::SetBody;
 use crate::counted::Asked;
 use crate::counted::Counted;
 use crate::counted::CountedBody;
+use body::set::Set;
+use body::set::SetBody;
 use plane::fault::Cause;
 use plane::fault::Fault;
 use plane::fault::FaultDebug;
@@ -68,14 +68,21 @@ fn one_point_twice() -> Result<(), Fail> {
     check_eq(survey.probe(), Ok(Said::Corner))?;
     check_eq(survey.probe(), Ok(Said::Settled))?;
     check_eq(survey.probe(), Ok(Said::Closed))?;
-    let counts = Counts { corners: 1, probes: 2 };
+    let counts = Counts {
+        corners: 1,
+        probes: 2,
+    };
     check_eq(survey.counts(), counts)
 }
 
 // (3, 1) lies on the segment from (0, 0) to (6, 2).
 #[test]
 fn segment() -> Result<(), Fail> {
-    let points = [Point { x: 0, y: 0 }, Point { x: 3, y: 1 }, Point { x: 6, y: 2 }];
+    let points = [
+        Point { x: 0, y: 0 },
+        Point { x: 3, y: 1 },
+        Point { x: 6, y: 2 },
+    ];
     let mut survey = Survey::open(Set::new(&points));
     check_eq(survey.probe(), Ok(Said::Corner))?;
     check_eq(survey.probe(), Ok(Said::Corner))?;
@@ -102,7 +109,10 @@ fn one_corner_too_many(points: &mut [Point]) -> Result<(), Fail> {
     check_eq(survey.run(1000), Ran { made: 511, ended })?;
     check_eq(survey.probe(), Err(full))?;
     check_eq(survey.run(1000), Ran { made: 0, ended })?;
-    let counts = Counts { corners: 256, probes: 511 };
+    let counts = Counts {
+        corners: 256,
+        probes: 511,
+    };
     check_eq(survey.counts(), counts).note("a refused probe loses and counts nothing")
 }
 

@@ -31,9 +31,15 @@ fn directions() -> Result<(), Fail> {
 // The products at the ends of 32 bits: (-2^31)·(-2^31) - (-2^31)·(2^31 - 1) = 2^63 - 2^31.
 #[test]
 fn wide_products() -> Result<(), Fail> {
-    let q = Point { x: i32::MAX, y: i32::MIN };
+    let q = Point {
+        x: i32::MAX,
+        y: i32::MIN,
+    };
     check_eq(cross(LEAST, q), 9_223_372_034_707_292_160)?;
-    check_eq(Direction::new(2_000_000, 2_000_000)?.dot(LEAST), -8_589_934_592_000_000)?;
+    check_eq(
+        Direction::new(2_000_000, 2_000_000)?.dot(LEAST),
+        -8_589_934_592_000_000,
+    )?;
     check_eq(LEAST.size(), 2_147_483_648)
 }
 

@@ -147,3 +147,7 @@ follow (Err f) s rest = ends s (ended.Refused f)
 abbrev pub run : Meaning → ℕ → State → Run
 run m zero s = ends s (cond (closed s) ended.Closed ended.Spent)
 run m (suc budget) s = follow (probe m s .says) s (run m budget (probe m s .leaves))
+
+-- a run long enough for any survey: each counted probe finds one of at most 256 corners or settles one of at most 256 edges
+unfoldable pub until-closed : Meaning → Run
+until-closed m = run m 512 opened

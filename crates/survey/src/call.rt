@@ -1,10 +1,10 @@
 use plane::direction::Direction;
+use plane::direction::DirectionDebug;
+use plane::direction::DirectionPartialEq;
 use plane::fault::Fault;
 use plane::fault::FaultDebug;
 use plane::fault::FaultPartialEq;
 use plane::point::Point;
-use plane::direction::DirectionDebug;
-use plane::direction::DirectionPartialEq;
 use plane::point::PointDebug;
 use plane::point::PointPartialEq;
 
@@ -46,7 +46,7 @@ pub struct Counts {
 }
 
 // A call on a survey; the outline is read into so many slots of a lent buffer.
-#[derive(Clone, Copy, PartialEq, Eq, Debug)]
+#[derive(Clone, Copy)]
 pub enum Call {
     Probe,
     Run(u32),
@@ -66,7 +66,7 @@ pub enum Told {
 }
 
 // A call, and what it told once it is made.
-#[derive(Clone, Copy, PartialEq, Eq, Debug)]
+#[derive(Clone, Copy)]
 pub struct Entry {
     pub call: Call,
     pub told: Option<Told>,

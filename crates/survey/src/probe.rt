@@ -1,6 +1,7 @@
 ghost use mathlib.Core.Path.{_≡_};
 ghost use mathlib.Core.Bool.{Bool, false};
 ghost use Prim.Native.Nat.{_+_, _<_, _≤_};
+ghost use Rattle.std.specs.Vec.{refused};
 ghost use Rattle.plane.specs.Directed.{Makes};
 ghost use Rattle.survey.specs.Rules.{opened, closed, question, edge-end, probe as probed, take-in, settling};
 ghost use Rattle.survey.specs.State.{state, found-by};
@@ -103,6 +104,7 @@ impl<A: Body> Survey<A> {
         ensures held { λ _. ⌜ now (self .exit) .body ≡ now (self .entry) .body ⌝ }
         ensures says { λ r. ⌜ r ≡ probed (A·Body .meaning (now (self .entry) .body)) (state (now (self .entry))) .says ⌝ }
         ensures leaves { λ _. ⌜ state (now (self .exit)) ≡ probed (A·Body .meaning (now (self .entry) .body)) (state (now (self .entry))) .leaves ⌝ }
+        ensures still { λ r. ⌜ refused r (λ _. state (now (self .exit)) ≡ state (now (self .entry))) ⌝ }
     {
         if self.is_closed() {
             return Ok(Said::Closed);

@@ -18,12 +18,25 @@ impl<A: Body> Survey<A> {
             match self.probe() {
                 Ok(said) => match said {
                     Said::Corner | Said::Settled => {}
-                    Said::Closed => return Ran { made, ended: Ended::Closed },
+                    Said::Closed => return Ran {
+                        made,
+                        ended: Ended::Closed,
+                    },
                 },
-                Err(fault) => return Ran { made, ended: Ended::Refused(fault) },
+                Err(fault) => return Ran {
+                    made,
+                    ended: Ended::Refused(fault),
+                },
             }
         }
-        let ended = if self.is_closed() { Ended::Closed } else { Ended::Spent };
-        Ran { made: budget, ended }
+        let ended = if self.is_closed() {
+            Ended::Closed
+        } else {
+            Ended::Spent
+        };
+        Ran {
+            made: budget,
+            ended,
+        }
     }
 }

@@ -23,11 +23,12 @@ loop-i-again g c =
     let same = ap (g .A·Body .meaning) (c .loop-i .inv .0) in
     let h : i < length es = omega (arith, c .loop-i .kept .log) in
     let e : telling t ≡ make m d call .tells = c .make .ensures .tells ∙ ap (λ (n : Meaning). make n d call .tells) same in
-    let l : d′ ≡ make m d call .leaves = c .make .ensures .leaves ∙ ap (λ (n : Meaning). make n d call .leaves) same in
-    (c .make .ensures .held ∙ c .loop-i .inv .0,
-    calls-kept m es i x h t d d′ e l ∙ c .loop-i .inv .1,
-    tells-more m es i x h t d d′ e l _ (c .loop-i .inv .2),
-    leaves-more m es i x h t d d′ e l _ (c .loop-i .inv .3))
+    let l : d′ ≡ make m d call .leaves = c .make .ensures .leaves ∙ ap (λ (n : Meaning). make n d call .leaves) same in (
+      c .make .ensures .held ∙ c .loop-i .inv .0,
+      calls-kept m es i x h t d d′ e l ∙ c .loop-i .inv .1,
+      tells-more m es i x h t d d′ e l _ (c .loop-i .inv .2),
+      leaves-more m es i x h t d d′ e l _ (c .loop-i .inv .3),
+    )
 
 pub returns : need.returns
 returns g c =

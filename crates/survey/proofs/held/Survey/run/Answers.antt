@@ -4,7 +4,8 @@ use Rattle.survey.specs.declared.call.Said.the-variants.{Closed}
 use Rattle.survey.specs.declared.call.Ended.the-variants as ended
 use Rattle.survey.specs.Rules.{Run, probe}
 use Rattle.survey.specs.State.{state}
-use Rattle.survey.proofs.Runs.{closed-still, refused-still, counts-one, goes-on, stops}
+use Rattle.survey.proofs.Runs.{counts-one, goes-on, stops}
+use Rattle.survey.proofs.Stillness.{closed-still, refused-still}
 use Rattle.survey.proofs.held.Survey.run.Needs as need
 
 pub returns-in-Closed : need.returns-in-Closed
@@ -33,7 +34,8 @@ loop-made-again g c =
     let m = g .A·Body .meaning (c .args .self .now .body) in
     let s = state (c .loop-made .self) in
     let same = ap (g .A·Body .meaning) (c .loop-made .inv .0) in
-    let t = c .in-Ok .ensures tt in
-    (t .held ∙ c .loop-made .inv .0,
-    goes-on m (c .args .budget) (c .loop-made .made) s (Ok (c .in-Ok .said)) (t .says ∙ ap (λ n. probe n s .says) same) (state (c .probe .last .self)) _ (c .loop-made-test .taken)
-    (counts-one (c .in-Ok .said) (c .in-Corner .is) s) (t .leaves ∙ ap (λ n. probe n s .leaves) same) (c .loop-made .inv .1))
+    let t = c .in-Ok .ensures tt in (
+      t .held ∙ c .loop-made .inv .0,
+      goes-on m (c .args .budget) (c .loop-made .made) s (Ok (c .in-Ok .said)) (t .says ∙ ap (λ n. probe n s .says) same) (state (c .probe .last .self)) _ (c .loop-made-test .taken)
+          (counts-one (c .in-Ok .said) (c .in-Corner .is) s) (t .leaves ∙ ap (λ n. probe n s .leaves) same) (c .loop-made .inv .1),
+    )
