@@ -2,10 +2,9 @@
 use mathlib.Core.Bool.{Bool, true, false, cond}
 use mathlib.Core.List.{List, [], _∷_}
 use mathlib.Core.Path.{_≡_, refl}
-use Prim.Native.Nat.{ℕ, _≤_, max}
+use Prim.Native.Nat.{ℕ, _≤_}
 use native.Mathlib.Omega.{arith}
 use lib.Dec.{eqb, ltb}
-use lib.IntN.{natAbs}
 use lib.ListN.{length}
 use Rattle.std.specs.declared.result.Result.the-variants.{Ok, Err}
 use Rattle.std.specs.shelf.Lists.{All}
@@ -13,7 +12,6 @@ use Rattle.std.proofs.shelf.Tests.{ltb-false, eqb-false}
 use Rattle.plane.specs.declared.fault.Cause.the-variants.{NoPoints, TooManyPoints, BeyondReach}
 use Rattle.plane.specs.declared.point.Point.{Point}
 use Rattle.plane.specs.Fault.{fault}
-use Rattle.plane.specs.Plane.{size}
 use Rattle.body.specs.Meaning.{Within, Bounded-by, Bounded}
 use Rattle.body.specs.Set.{reach, first-beyond, reach-verdict, points-verdict, set-meaning}
 

@@ -1,16 +1,15 @@
 -- The order of the integers and the product. `le-by` and `lt-by` take a certificate: what the right side is more than the left, and why that is not negative.
-use mathlib.Core.Path.{_≡_, refl, sym, _∙_, ap, ap₂, subst}
-use mathlib.Core.Bool.{Bool, true, false, not}
+use mathlib.Core.Path.{_≡_, refl}
+use mathlib.Core.Bool.{Bool, true, false}
 use mathlib.Core.Logic.{_⊎_, inl, inr}
-use mathlib.Core.List.{List, [], _∷_}
+use mathlib.Core.List.{[], _∷_}
 use Prim.Native.Nat.{ℕ, zero, suc, _+_, _*_, _<_, _≤_}
 use native.Mathlib.Omega.{arith}
 use native.Mathlib.Nat.{le-trans, mul-le-mul-left, mul-le-mul-right}
-use lib.Dec.{T}
 use lib.IntN.{ℤ, pos, negsuc, _+ℤ_, _-ℤ_, _*ℤ_, negℤ, natAbs}
-use lib.Signed.{ltZ, leZ, _≤ℤ_, _<ℤ_, ltZ-yes, ltZ-no, clashℤ}
+use lib.Signed.{ltZ, _≤ℤ_, _<ℤ_, clashℤ}
 use borrow.Author.Differences.{ints}
-use Rattle.plane.proofs.Laws.{lin, expand}
+use Rattle.plane.proofs.Laws.{lin}
 use Rattle.plane.proofs.Ring.{ring, reads}
 
 pub lt-or-le : (a b : ℤ) → (a <ℤ b) ⊎ (b ≤ℤ a)

@@ -1,9 +1,7 @@
 -- The tests of equality of numbers and points tell what they say.
-use Prim.Native.Nat.{ℕ}
-use lib.Dec.{eqb}
 use lib.IntN.{ℤ, pos, negsuc}
-use mathlib.Core.Bool.{Bool, true, false, _&&_}
-use mathlib.Core.Path.{_≡_, refl, ap, sym, _∙_, subst}
+use mathlib.Core.Bool.{Bool, true, false}
+use mathlib.Core.Path.{_≡_, refl, ap, subst}
 use Rattle.std.specs.Orderings.{Decides}
 use Rattle.std.proofs.shelf.Tests.{eqb-true, eq-eqb, and-parts, and-from, both-ways, false≢true}
 use Rattle.plane.specs.declared.point.Point.{Point}

@@ -3,9 +3,9 @@ use mathlib.Core.Path.{_≡_, refl, sym, _∙_, ap, ap₂, subst}
 use mathlib.Core.List.{List, [], _∷_}
 use Prim.Native.Nat.{ℕ, zero, suc, _+_, _*_, compare, Ordering, Ordering·lt, Ordering·eq, Ordering·gt}
 use native.Mathlib.Omega.{arith}
-use lib.IntN.{ℤ, pos, negsuc, _+ℤ_, _-ℤ_, _*ℤ_, negℤ, +ℤ-assoc, +ℤ-comm, +ℤ-idl, +ℤ-idr, negℤ-+ℤ, zero-*ℤ, *ℤ-zero, *ℤ-comm}
+use lib.IntN.{ℤ, pos, negsuc, _+ℤ_, _-ℤ_, _*ℤ_, negℤ, +ℤ-assoc, +ℤ-idl, +ℤ-idr, negℤ-+ℤ, zero-*ℤ, *ℤ-zero}
 use lib.Dec.{T, isEq, eqb→eq}
-use borrow.Author.Differences.{ints, sum-is, neg-is, same-in}
+use borrow.Author.Differences.{ints}
 use Rattle.plane.proofs.Laws.{*ℤ-assoc, *ℤ-left-comm, +ℤ-*ℤ, *ℤ-+ℤ, negℤ-*ℤ, one-*ℤ, *ℤ-one}
 
 infixl 6 _⊕_ _⊖_

@@ -1,15 +1,15 @@
 -- The support point that is worked out is one, and there is no other.
 use mathlib.Core.Path.{_≡_, refl, subst}
 use mathlib.Core.Bool.{Bool, true, false, cond, not, _&&_, _||_}
-use mathlib.Core.List.{List, [], _∷_, _++_}
+use mathlib.Core.List.{List, [], _∷_}
 use mathlib.Core.Logic.{_⊎_, inl, inr}
-use Prim.Native.Nat.{ℕ, zero, suc, _+_, _<_}
+use Prim.Native.Nat.{zero, suc, _+_, _<_}
 use native.Mathlib.Omega.{arith}
 use lib.IntN.{ℤ, natAbs, pos}
 use lib.ListN.{length}
 use lib.Signed.{ltZ, _≤ℤ_, _<ℤ_}
-use Rattle.std.specs.shelf.Lists.{All, Has}
-use Rattle.std.proofs.shelf.Elements.{all-has, all-weaker, has-append-right}
+use Rattle.std.specs.shelf.Lists.{Has}
+use Rattle.std.proofs.shelf.Elements.{all-has, has-append-right}
 use Rattle.std.proofs.shelf.Signed.{ints}
 use Rattle.plane.specs.declared.point.Point.{Point}
 use Rattle.plane.specs.declared.direction.Direction.{Direction}

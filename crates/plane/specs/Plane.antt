@@ -3,7 +3,7 @@ use Prim.Native.Nat.{ℕ, max}
 use lib.Dec.{eqb}
 use lib.IntN.{ℤ, pos, negsuc, negℤ, natAbs, _+ℤ_, _-ℤ_, _*ℤ_}
 use lib.Signed.{ltZ}
-use mathlib.Core.Bool.{Bool, true, false, _&&_, _||_}
+use mathlib.Core.Bool.{Bool, false, _&&_, _||_}
 use Rattle.plane.specs.declared.point.Point.{Point}
 use Rattle.plane.specs.declared.direction.Direction.{Direction}
 

@@ -1,5 +1,5 @@
 ghost use mathlib.Core.Path.{_≡_};
-ghost use Prim.Native.Nat.{ℕ, _+_, _*_, _^_, _<_, _≤_};
+ghost use Prim.Native.Nat.{_+_, _*_, _<_, _≤_};
 ghost use lib.IntN.{natAbs, _*ℤ_, _+ℤ_, _-ℤ_};
 ghost use Rattle.plane.specs.Directed.{Makes};
 ghost use Rattle.plane.specs.Plane.{vector, dot, cross, perp, normal};

@@ -46,16 +46,4 @@ impl Direction {
             y: self.x,
         }
     }
-
-    pub fn x(self) -> i32
-        ensures { λ r. ⌜ r ≡ vector self .x ⌝ }
-    {
-        self.x
-    }
-
-    pub fn y(self) -> i32
-        ensures { λ r. ⌜ r ≡ vector self .y ⌝ }
-    {
-        self.y
-    }
 }

@@ -3,8 +3,7 @@ use mathlib.Core.Bool.{Bool, true, false, _&&_}
 use mathlib.Core.List.{List, [], _∷_}
 use Prim.Native.Nat.{ℕ}
 use lib.Dec.{T, eqb}
-use lib.IntN.{ℤ, pos, negsuc}
-use Rattle.plane.specs.declared.fault.Fault.{Fault}
+use lib.IntN.{pos, negsuc}
 use Rattle.plane.specs.declared.point.Point.{Point}
 use Rattle.plane.specs.Fault.{number}
 use Rattle.plane.specs.Plane.{point, same}

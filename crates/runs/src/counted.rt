@@ -1,5 +1,4 @@
 // A body that counts its questions, written against the trait alone.
-ghost use denote.Ref.{now};
 use body::body::Body;
 use plane::direction::Direction;
 use plane::fault::Fault;

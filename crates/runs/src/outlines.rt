@@ -16,10 +16,11 @@ use survey::call::Counts;
 use survey::call::CountsDebug;
 use survey::call::CountsPartialEq;
 use survey::call::Ended;
+use survey::call::EndedDebug;
+use survey::call::EndedPartialEq;
 use survey::call::Ran;
 use survey::call::RanDebug;
 use survey::call::RanPartialEq;
-use survey::call::Said;
 use survey::call::SaidDebug;
 use survey::call::SaidPartialEq;
 use survey::held::Survey;
@@ -46,52 +47,51 @@ fn fill_with_parabola(points: &mut [Point]) {
     }
 }
 
+// Surveys the points until closed: two probes for each corner, and the corners in this order.
+fn outlines(points: &[Point], corners: &[Point]) -> Result<(), Fail> {
+    let mut survey = Survey::open(Set::new(points));
+    check_eq(survey.run(1000).ended, Ended::Closed)?;
+    check_eq(survey.counts().corners, corners.len())?;
+    for i in 0..corners.len() {
+        let corner = survey.corner(i)?;
+        check_eq(corner.at, corners[i])?;
+    }
+    check_eq(
+        survey.counts().probes as usize,
+        corners.len().wrapping_mul(2),
+    )
+}
+
 // The middle of the upper side, (1, 1), ties with its ends and is no corner.
 #[test]
 fn rectangle() -> Result<(), Fail> {
-    let mut survey = Survey::open(Set::new(&RECTANGLE));
-    let ended = Ended::Closed;
-    check_eq(survey.run(100), Ran { made: 8, ended })?;
-    let mut out = [Point { x: 9, y: 9 }; 5];
-    check_eq(survey.outline(&mut out), Ok(4))?;
-    check_eq(out[0], Point { x: 2, y: 1 })?;
-    check_eq(out[1], Point { x: 0, y: 1 })?;
-    check_eq(out[2], Point { x: 0, y: 0 })?;
-    check_eq(out[3], Point { x: 2, y: 0 })?;
-    check_eq(out[4], Point { x: 9, y: 9 }).note("the slot after the corners stays")
+    outlines(
+        &RECTANGLE,
+        &[
+            Point { x: 2, y: 1 },
+            Point { x: 0, y: 1 },
+            Point { x: 0, y: 0 },
+            Point { x: 2, y: 0 },
+        ],
+    )
 }
 
 #[test]
 fn one_point_twice() -> Result<(), Fail> {
-    let points = [Point { x: 5, y: 5 }; 2];
-    let mut survey = Survey::open(Set::new(&points));
-    check_eq(survey.probe(), Ok(Said::Corner))?;
-    check_eq(survey.probe(), Ok(Said::Settled))?;
-    check_eq(survey.probe(), Ok(Said::Closed))?;
-    let counts = Counts {
-        corners: 1,
-        probes: 2,
-    };
-    check_eq(survey.counts(), counts)
+    outlines(&[Point { x: 5, y: 5 }; 2], &[Point { x: 5, y: 5 }])
 }
 
 // (3, 1) lies on the segment from (0, 0) to (6, 2).
 #[test]
 fn segment() -> Result<(), Fail> {
-    let points = [
-        Point { x: 0, y: 0 },
-        Point { x: 3, y: 1 },
-        Point { x: 6, y: 2 },
-    ];
-    let mut survey = Survey::open(Set::new(&points));
-    check_eq(survey.probe(), Ok(Said::Corner))?;
-    check_eq(survey.probe(), Ok(Said::Corner))?;
-    check_eq(survey.probe(), Ok(Said::Settled))?;
-    check_eq(survey.probe(), Ok(Said::Settled))?;
-    let mut out = [Point { x: 9, y: 9 }; 2];
-    check_eq(survey.outline(&mut out), Ok(2))?;
-    check_eq(out[0], Point { x: 6, y: 2 })?;
-    check_eq(out[1], Point { x: 0, y: 0 })
+    outlines(
+        &[
+            Point { x: 0, y: 0 },
+            Point { x: 3, y: 1 },
+            Point { x: 6, y: 2 },
+        ],
+        &[Point { x: 6, y: 2 }, Point { x: 0, y: 0 }],
+    )
 }
 
 // The first open edge is always the leftmost, and the tangent to a chord touches at the middle: when the corner at

@@ -2,16 +2,15 @@
 use Prim.Native.Nat.{ℕ, zero, suc, _+_, _≤_, _<_}
 use native.Mathlib.Omega.{arith}
 use native.Mathlib.Numerals.{add-one}
-use lib.Dec.{eqb, ltb}
-use lib.ListN.{length, getD, take, drop}
-use mathlib.Core.Bool.{Bool, true, false, cond, _&&_}
-use mathlib.Core.List.{List, [], _∷_, _++_, map}
+use lib.Dec.{eqb}
+use lib.ListN.{length, getD, take}
+use mathlib.Core.Bool.{true, false}
+use mathlib.Core.List.{List, [], _∷_}
 use mathlib.Core.Logic.{_⊎_, inl, inr}
 use mathlib.Core.Path.{_≡_, refl, ap, sym, _∙_}
 use Rattle.std.specs.shelf.Lists.{inserted}
 use Rattle.std.proofs.shelf.Lists.{length-take-le, getD-take}
 use Rattle.std.proofs.shelf.Tests.{lt-ltb, le-ltb, eq-eqb, ne-eqb, eqb-false, cases-eq, cond-true, cond-false}
-use Rattle.plane.specs.declared.point.Point.{Point}
 use Rattle.survey.specs.declared.call.Corner.{Corner}
 use Rattle.survey.specs.Rules.{Found, closed-list, all-settled, first-open, nothing, edge-start, edge-end, settle}
 use Rattle.survey.specs.State.{mark, found-by, marked}

@@ -5,7 +5,7 @@ use mathlib.Core.Bool.{cond}
 use mathlib.Core.Logic.{_⊎_, inl, inr}
 use mathlib.Core.Path.{_≡_, ap, sym, _∙_}
 use Rattle.std.specs.declared.result.Result.{Result}
-use Rattle.std.specs.declared.result.Result.the-variants.{Ok, Err}
+use Rattle.std.specs.declared.result.Result.the-variants.{Ok}
 use Rattle.plane.specs.declared.fault.Fault.{Fault}
 use Rattle.body.specs.Meaning.{Meaning}
 use Rattle.survey.specs.declared.call.Said.{Said}

@@ -24,9 +24,9 @@ use Rattle.body.specs.Meaning.{Meaning, Answers}
 use Rattle.body.proofs.Answering.{answers-is}
 use Rattle.survey.specs.declared.call.Corner.{Corner}
 use Rattle.survey.specs.declared.call.Said.the-variants.{Corner as a-corner, Closed}
-use Rattle.survey.specs.Rules.{State, Found, Probed, closed, question, first-open, edge-start, edge-end, take-in, unchanged, settle, settling, about-edge, by-point, by-answer, asks, probe}
+use Rattle.survey.specs.Rules.{State, Found, closed, question, first-open, edge-start, edge-end, take-in, unchanged, settle, settling, about-edge, by-point, by-answer, asks, probe}
 use Rattle.survey.specs.declared.held.Survey.{Survey}
-use Rattle.survey.specs.State.{mark, found-by, marked, state}
+use Rattle.survey.specs.State.{mark, marked, state}
 use Rattle.survey.proofs.Marks.{open-edge, length-front, first-open-marked, inserted-marked, settle-marked}
 
 pub no-room : (s : State) (i : ℕ) (u p : Point) → 256 ≤ length (s .found) → take-in s i u p ≡ unchanged s (Err (fault TooManyCorners 0))

@@ -1,6 +1,4 @@
 use native.Mathlib.Omega.{arith}
-use mir.Val.{Fits}
-use mir.Syntax.{w32}
 use Rattle.body.proofs.Walks.{first-beyond-low}
 use Rattle.body.proofs.reach.judge.Needs as need
 

@@ -1,9 +1,7 @@
 use mathlib.Core.List.{List, _++_}
-use mathlib.Core.Path.{_≡_, refl, ap, sym, _∙_}
-use lib.ListN.{take, drop}
+use mathlib.Core.Path.{refl, ap, sym, _∙_}
 use Rattle.plane.specs.declared.point.Point.{Point}
-use Rattle.survey.specs.declared.call.Call.{Call}
-use Rattle.survey.specs.Calls.{Done, Stand, Outlined, of-outline, make, read-outline}
+use Rattle.survey.specs.Calls.{Done, Stand, of-outline, make, read-outline}
 use Rattle.survey.specs.State.{state}
 use Rattle.survey.proofs.Replaying.{front-slots, back-slots}
 use Rattle.survey.proofs.held.Survey.make.Needs as need
