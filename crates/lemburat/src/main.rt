@@ -11,7 +11,7 @@ use std::io;
 use survey::call::Counts;
 use survey::call::Ended;
 use survey::call::Ran;
-use survey::held::Survey;
+use survey::survey::Survey;
 
 // A rectangle of 2 by 1 whose upper side is measured at its middle too.
 const SAMPLE: [Point; 5] = [

@@ -19,7 +19,7 @@ use survey::call::RanDebug;
 use survey::call::RanPartialEq;
 use survey::call::SaidDebug;
 use survey::call::SaidPartialEq;
-use survey::held::Survey;
+use survey::survey::Survey;
 
 const ORIGIN: Point = Point { x: 0, y: 0 };
 

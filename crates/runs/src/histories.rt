@@ -19,8 +19,8 @@ use survey::call::Said;
 use survey::call::Told;
 use survey::call::ToldDebug;
 use survey::call::ToldPartialEq;
-use survey::held::Survey;
 use survey::replay::replay;
+use survey::survey::Survey;
 
 // What a slot holds that nothing is written to.
 const MARK: Point = Point { x: 7, y: 7 };

@@ -25,7 +25,7 @@ use Rattle.body.proofs.Answering.{answers-is}
 use Rattle.survey.specs.declared.call.Corner.{Corner}
 use Rattle.survey.specs.declared.call.Said.the-variants.{Corner as a-corner, Closed}
 use Rattle.survey.specs.Rules.{State, Found, closed, question, first-open, edge-start, edge-end, take-in, unchanged, settle, settling, about-edge, by-point, by-answer, asks, probe}
-use Rattle.survey.specs.declared.held.Survey.{Survey}
+use Rattle.survey.specs.declared.survey.Survey.{Survey}
 use Rattle.survey.specs.State.{mark, marked, state}
 use Rattle.survey.proofs.Marks.{open-edge, length-front, first-open-marked, inserted-marked, settle-marked}
 

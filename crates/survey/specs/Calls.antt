@@ -23,7 +23,7 @@ use Rattle.survey.specs.declared.call.Ran.{Ran}
 use Rattle.survey.specs.declared.call.Said.{Said}
 use Rattle.survey.specs.declared.call.Told.{Told}
 use Rattle.survey.specs.declared.call.Told.the-variants as told
-use Rattle.survey.specs.declared.held.Survey.{Survey}
+use Rattle.survey.specs.declared.survey.Survey.{Survey}
 use Rattle.survey.specs.Rules.{State, opened, corners, closed, nothing, probe, run}
 use Rattle.survey.specs.State.{found-by, state}
 

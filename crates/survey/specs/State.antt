@@ -6,7 +6,7 @@ use lib.ListN.{take}
 use Rattle.plane.specs.declared.point.Point.{Point}
 use Rattle.plane.specs.Plane.{vector}
 use Rattle.survey.specs.declared.call.Corner.{Corner}
-use Rattle.survey.specs.declared.held.Survey.{Survey}
+use Rattle.survey.specs.declared.survey.Survey.{Survey}
 use Rattle.survey.specs.Rules.{Found, State}
 
 -- the direction that found a corner, as a vector

@@ -1,7 +1,7 @@
 pub mod call;
-pub mod held;
-pub mod insert;
+mod insert;
 pub mod probe;
 pub mod read;
 pub mod replay;
 pub mod run;
+pub mod survey;

@@ -7,8 +7,8 @@ ghost use Rattle.survey.specs.Rules.{opened, closed, question, edge-end, probe
 ghost use Rattle.survey.specs.State.{state, found-by};
 use crate::call::Corner;
 use crate::call::Said;
-use crate::held::Survey;
 use crate::insert::insert_at;
+use crate::survey::Survey;
 use body::body::Body;
 use plane::direction::Direction;
 use plane::fault::Cause;

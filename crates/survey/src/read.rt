@@ -7,7 +7,7 @@ ghost use Rattle.survey.specs.Rules.{corners as corners-of, nothing};
 ghost use Rattle.survey.specs.State.{state, found-by};
 use crate::call::Corner;
 use crate::call::Counts;
-use crate::held::Survey;
+use crate::survey::Survey;
 use plane::fault::Cause;
 use plane::fault::Fault;
 use plane::point::Point;

@@ -3,7 +3,7 @@ ghost use Rattle.survey.specs.Calls.{make as made, stand, telling, leaves-from
 use crate::call::Call;
 use crate::call::Entry;
 use crate::call::Told;
-use crate::held::Survey;
+use crate::survey::Survey;
 use body::body::Body;
 use plane::point::Point;
 

@@ -4,7 +4,7 @@ ghost use Rattle.survey.specs.State.{state};
 use crate::call::Ended;
 use crate::call::Ran;
 use crate::call::Said;
-use crate::held::Survey;
+use crate::survey::Survey;
 use body::body::Body;
 
 impl<A: Body> Survey<A> {

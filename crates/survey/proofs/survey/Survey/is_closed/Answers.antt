@@ -1,6 +1,6 @@
 use native.Mathlib.Omega.{arith}
 use Rattle.survey.proofs.Marks.{closed-is}
-use Rattle.survey.proofs.held.Survey.is_closed.Needs as need
+use Rattle.survey.proofs.survey.Survey.is_closed.Needs as need
 
 pub returns-then-self-gt0 : need.returns-then-self-gt0
 returns-then-self-gt0 g c =

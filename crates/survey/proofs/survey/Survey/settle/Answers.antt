@@ -4,7 +4,7 @@ use Prim.Native.Nat.{_+_}
 use native.Mathlib.Omega.{arith}
 use Rattle.survey.specs.Rules.{Found, State}
 use Rattle.survey.proofs.Steps.{settled-front}
-use Rattle.survey.proofs.held.Survey.settle.Needs as need
+use Rattle.survey.proofs.survey.Survey.settle.Needs as need
 
 pub returns : need.returns
 returns g c =

@@ -1,7 +1,7 @@
 use mathlib.Core.Path.{sym}
 use native.Mathlib.Omega.{arith}
 use Rattle.survey.proofs.Marks.{corner-front, asked-front}
-use Rattle.survey.proofs.held.Survey.corner_at.Needs as need
+use Rattle.survey.proofs.survey.Survey.corner_at.Needs as need
 
 pub returns : need.returns
 returns g c =

@@ -2,7 +2,7 @@ use mathlib.Core.List.{_++_}
 use mathlib.Core.Path.{_≡_}
 use lib.ListN.{take, drop}
 use Rattle.survey.specs.Calls.{stand, leaves-from, tells-from, calls-of, told-of, each-told}
-use Rattle.survey.proofs.held.Survey.make_all.Given as given
+use Rattle.survey.proofs.survey.Survey.make_all.Given as given
 
 -- the body is the same, the calls are as they were, and the calls that are left tell and leave the rest of what all of them do
 abbrev pub Inv-loop-i : given.InvT-loop-i

@@ -5,7 +5,7 @@ use Rattle.plane.specs.declared.point.Point.{Point}
 use Rattle.plane.specs.Directed.{Makes}
 use Rattle.survey.proofs.Marks.{corner-front}
 use Rattle.survey.proofs.Steps.{open-survey, question-front}
-use Rattle.survey.proofs.held.Survey.question.Needs as need
+use Rattle.survey.proofs.survey.Survey.question.Needs as need
 
 pub listed : need.listed
 listed g c = omega (arith, open-survey (c .args .self .now) (c .pre) (omega arith))

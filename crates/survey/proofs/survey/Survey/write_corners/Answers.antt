@@ -1,6 +1,6 @@
 use native.Mathlib.Omega.{arith}
 use Rattle.survey.proofs.Readings.{written-all, written-more}
-use Rattle.survey.proofs.held.Survey.write_corners.Needs as need
+use Rattle.survey.proofs.survey.Survey.write_corners.Needs as need
 
 pub loop-i-again : need.loop-i-again
 loop-i-again g c =

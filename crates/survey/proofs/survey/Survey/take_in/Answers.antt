@@ -7,7 +7,7 @@ use Rattle.survey.specs.Rules.{Found, State, Probed}
 use Rattle.survey.specs.State.{state, found-by}
 use Rattle.survey.proofs.Marks.{length-front}
 use Rattle.survey.proofs.Steps.{no-room, room, grown}
-use Rattle.survey.proofs.held.Survey.take_in.Needs as need
+use Rattle.survey.proofs.survey.Survey.take_in.Needs as need
 
 pub returns-then-self-ge256 : need.returns-then-self-ge256
 returns-then-self-ge256 g c =

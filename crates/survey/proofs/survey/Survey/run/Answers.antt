@@ -6,7 +6,7 @@ use Rattle.survey.specs.Rules.{Run, probe}
 use Rattle.survey.specs.State.{state}
 use Rattle.survey.proofs.Runs.{counts-one, goes-on, stops}
 use Rattle.survey.proofs.Stillness.{closed-still, refused-still}
-use Rattle.survey.proofs.held.Survey.run.Needs as need
+use Rattle.survey.proofs.survey.Survey.run.Needs as need
 
 pub returns-in-Closed : need.returns-in-Closed
 returns-in-Closed g c =

@@ -5,7 +5,7 @@ use lib.ListN.{length, getD}
 use Rattle.body.specs.Meaning.{Meaning}
 use Rattle.survey.specs.Calls.{stand, make, telling}
 use Rattle.survey.proofs.Replaying.{calls-kept, tells-more, leaves-more, tells-all, leaves-all}
-use Rattle.survey.proofs.held.Survey.make_all.Needs as need
+use Rattle.survey.proofs.survey.Survey.make_all.Needs as need
 
 pub loop-i-holds : need.loop-i-holds
 loop-i-holds g c = (refl, refl, refl, refl)

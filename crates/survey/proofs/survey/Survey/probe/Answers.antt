@@ -5,7 +5,7 @@ use Rattle.survey.specs.Rules.{Probed}
 use Rattle.survey.specs.State.{state}
 use Rattle.survey.proofs.Stillness.{refused-leaves}
 use Rattle.survey.proofs.Steps.{open-survey, length-state, first-open-state, probe-first, probe-settles, probe-between}
-use Rattle.survey.proofs.held.Survey.probe.Needs as need
+use Rattle.survey.proofs.survey.Survey.probe.Needs as need
 
 pub edge-end-requires : need.edge-end-requires
 edge-end-requires g c κs = open-survey (c .args .self .now) (sym (c .is-closed .ensures) ∙ c .if-is-closed .left) (omega arith)

@@ -1,7 +1,7 @@
 use mathlib.Core.Path.{sym}
 use native.Mathlib.Omega.{arith}
 use Rattle.survey.proofs.Marks.{edge-end-next, edge-end-last}
-use Rattle.survey.proofs.held.Survey.edge_end.Needs as need
+use Rattle.survey.proofs.survey.Survey.edge_end.Needs as need
 
 pub returns-then-next-self : need.returns-then-next-self
 returns-then-next-self g c =

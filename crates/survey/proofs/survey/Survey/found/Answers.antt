@@ -1,6 +1,6 @@
 use mathlib.Core.Path.{refl, sym}
 use Rattle.survey.proofs.Steps.{length-state}
-use Rattle.survey.proofs.held.Survey.found.Needs as need
+use Rattle.survey.proofs.survey.Survey.found.Needs as need
 
 pub returns : need.returns
 returns g c = record { value = refl; listed = sym (length-state (c .args .self .now)) }

@@ -4,7 +4,7 @@ use Rattle.plane.specs.declared.point.Point.{Point}
 use Rattle.survey.specs.Calls.{Done, Stand, of-outline, make, read-outline}
 use Rattle.survey.specs.State.{state}
 use Rattle.survey.proofs.Replaying.{front-slots, back-slots}
-use Rattle.survey.proofs.held.Survey.make.Needs as need
+use Rattle.survey.proofs.survey.Survey.make.Needs as need
 
 pub returns-in-Outline : need.returns-in-Outline
 returns-in-Outline g c =

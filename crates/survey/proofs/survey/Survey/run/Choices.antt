@@ -3,7 +3,7 @@ use mathlib.Core.Path.{_≡_}
 use Rattle.survey.specs.Rules.{run}
 use Rattle.survey.specs.State.{state}
 use Rattle.survey.proofs.Runs.{after}
-use Rattle.survey.proofs.held.Survey.run.Given as given
+use Rattle.survey.proofs.survey.Survey.run.Given as given
 
 abbrev pub Inv-loop-made : given.InvT-loop-made
 Inv-loop-made g l =
