@@ -1,4 +1,4 @@
--- What a body means, a verdict and a finite list of points, and what it answers.
+-- What a body means, and what it answers.
 use mathlib.Core.Path.{_≡_}
 use mathlib.Core.List.{List}
 use Prim.Native.Nat.{ℕ, _≤_, _<_}
@@ -11,7 +11,7 @@ use Rattle.plane.specs.declared.fault.Fault.{Fault}
 use Rattle.plane.specs.declared.point.Point.{Point}
 use Rattle.plane.specs.Support.{Supports, support}
 
--- sound, with a reach, or faulty, with a fault
+-- `Ok` with the reach of a sound body, `Err` with the fault of a faulty one
 abbrev pub Verdict : Type 0
 Verdict = Result ℕ Fault
 
@@ -19,7 +19,7 @@ pub record Meaning : Type 0 where
   pub verdict : Verdict
   pub points : List Point
 
--- no coordinate passes n in size
+-- both coordinates are between -n and n
 abbrev pub Within : ℕ → Point → Type 0
 Within n p = (natAbs (p .x) ≤ n) × (natAbs (p .y) ≤ n)
 
@@ -27,7 +27,7 @@ abbrev pub Bounded-by : Verdict → List Point → Type 0
 Bounded-by (Ok reach) ps = (reach ≤ 1000000) × All (Within reach) ps × (0 < length ps)
 Bounded-by (Err f) ps = Unit {0}
 
--- the bounds of a sound body: a reach of at most 1,000,000 that no coordinate passes, and at least one point
+-- a sound body has points, its reach bounds them, and the reach is bounded too; nothing is asked of a faulty one
 pub record Bounded (m : Meaning) : Type 0 where
   pub bounds : Bounded-by (m .verdict) (m .points)
 

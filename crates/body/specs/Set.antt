@@ -11,7 +11,7 @@ use Rattle.plane.specs.Fault.{fault}
 use Rattle.plane.specs.Plane.{size}
 use Rattle.body.specs.Meaning.{Verdict, Meaning}
 
--- the greatest absolute coordinate among the points
+-- the largest size of a point
 abbrev pub reach : List Point → ℕ
 reach [] = 0
 reach (p ∷ ps) = max (size p) (reach ps)
@@ -24,7 +24,7 @@ first-beyond (p ∷ ps) = cond (ltb 1000000 (size p)) 0 (suc (first-beyond ps))
 abbrev pub reach-verdict : List Point → Verdict
 reach-verdict ps = cond (ltb 1000000 (reach ps)) (Err (fault BeyondReach (first-beyond ps))) (Ok (reach ps))
 
--- the verdict of a list of 1 to `most` points; of several faults the lower cause
+-- the verdict of a list that may have `most` points; what is tested first is told first
 abbrev pub points-verdict : ℕ → List Point → Verdict
 points-verdict most ps = cond (eqb (length ps) 0) (Err (fault NoPoints 0)) (cond (ltb most (length ps)) (Err (fault TooManyPoints most)) (reach-verdict ps))
 

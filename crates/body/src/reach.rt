@@ -12,7 +12,7 @@ use plane::point::Point;
 // The greatest reach of a sound body.
 pub const LIMIT: u32 = 1_000_000;
 
-// The greatest absolute coordinate among the points.
+// The largest size of a point.
 fn reach_of(points: &[Point]) -> u32
     ensures { λ r. ⌜ r ≡ reach (now (points .entry)) ⌝ }
 {

@@ -12,7 +12,7 @@ use plane::point::Point;
 // The greatest number of points of a set.
 pub const MOST: u32 = 1024;
 
-// A set of 1 to 1,024 points, judged once, when it is made.
+// A body that means the points of a list, and keeps the verdict from when it was made.
 #[derive(Clone, Copy)]
 pub struct Set<'a> {
     points: &'a [Point],

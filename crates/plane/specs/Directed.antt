@@ -13,7 +13,7 @@ use Rattle.plane.specs.declared.point.Point.{Point}
 use Rattle.plane.specs.Fault.{fault}
 use Rattle.plane.specs.Plane.{vector}
 
--- not both components are zero, and none is beyond 2,000,000 in size
+-- some component is not 0, and each is between -2,000,000 and 2,000,000
 abbrev pub directed : Point → Bool
 directed v = ltb 0 (natAbs (v .x) + natAbs (v .y)) && (leb (natAbs (v .x)) 2000000 && leb (natAbs (v .y)) 2000000)
 

@@ -30,13 +30,13 @@ abbrev pub total : List ℕ → ℕ
 total [] = 0
 total (w ∷ ws) = w + total ws
 
--- the points times their weights, added up
+-- the weighted sum
 abbrev pub weigh : List ℕ → List Point → Point
 weigh [] ps = origin
 weigh (w ∷ ws) [] = origin
 weigh (w ∷ ws) (p ∷ ps) = plus (times (pos w) p) (weigh ws ps)
 
--- for some way of writing f, natural weights, one for each point, add up to its D, and the points times their weights add up to (X, Y)
+-- f, written in some way, is the average of the points under natural weights, one beside each point: D is the sum of the weights, (X, Y) the weighted sum
 pub record In-hull (ps : List Point) (f : Fraction) : Type 0 where
   pub way : Fraction
   pub writes : Same-point way f
@@ -45,11 +45,11 @@ pub record In-hull (ps : List Point) (f : Fraction) : Type 0 where
   pub add-up : total weights ≡ way .D
   pub weighted : weigh weights ps ≡ point (way .X) (way .Y)
 
--- the points of the list that differ from p
+-- the list without p
 abbrev pub others : Point → List Point → List Point
 others p ps = kept-by (λ q. not (same q p)) ps
 
--- a point of the list that is not in the hull of those of its points that differ from it
+-- a listed point that the hull of the rest leaves out
 pub record Corner (ps : List Point) (p : Point) : Type 0 where
   pub listed : Has ps p
   pub outside : In-hull (others p ps) (whole p) → ⊥

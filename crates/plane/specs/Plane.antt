@@ -60,6 +60,6 @@ equal (negsuc a) (negsuc b) = eqb a b
 abbrev pub same : Point → Point → Bool
 same p q = equal (p .x) (q .x) && equal (p .y) (q .y)
 
--- the order of points: p has the larger x or, at equal x, the larger y
+-- the order of points, by x and then by y: p comes after q
 abbrev pub greater : Point → Point → Bool
 greater p q = ltZ (q .x) (p .x) || (equal (q .x) (p .x) && ltZ (q .y) (p .y))

@@ -8,16 +8,16 @@ use Rattle.std.specs.shelf.Lists.{All, Has}
 use Rattle.plane.specs.declared.point.Point.{Point}
 use Rattle.plane.specs.Plane.{origin, dot, perp}
 
--- q has no greater u·q than p and, where it is as great, no greater perp(u)·q
+-- q does not lie beyond p: u·q is smaller, or ties and perp(u)·q is not larger
 abbrev pub Not-beyond : Point → Point → Point → Type 0
 Not-beyond u p q = (dot u q <ℤ dot u p) ⊎ ((dot u q ≡ dot u p) × (dot (perp u) q ≤ℤ dot (perp u) p))
 
--- p is the point of the list that has the greatest u·p and, among those, the greatest perp(u)·p
+-- p is listed, and nothing listed lies beyond it
 pub record Supports (u : Point) (ps : List Point) (p : Point) : Type 0 where
   pub listed : Has ps p
   pub greatest : All (Not-beyond u p) ps
 
--- whether u·q is greater than u·p or, where it is not less either, perp(u)·q is greater than perp(u)·p
+-- whether q lies beyond p: u·q is larger, or is no smaller and perp(u)·q is larger
 abbrev pub beyond : Point → Point → Point → Bool
 beyond u p q = ltZ (dot u p) (dot u q) || (not (ltZ (dot u q) (dot u p)) && ltZ (dot (perp u) p) (dot (perp u) q))
 

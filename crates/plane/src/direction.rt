@@ -1,7 +1,7 @@
 ghost use Prim.Native.Nat.{_+_, _<_, _≤_};
 ghost use lib.IntN.{natAbs};
 
-// A vector that is not zero, with no component beyond 2,000,000 in size.
+// A vector other than (0, 0), both components between -2,000,000 and 2,000,000.
 #[derive(Clone, Copy, PartialEq, Eq, Debug)]
 pub struct Direction {
     pub(crate) x: i32,

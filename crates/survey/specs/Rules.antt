@@ -28,7 +28,7 @@ pub record Found : Type 0 where
   pub asked : Point
   pub settled : Bool
 
--- the corners in outline order, edge i running from corner i to the next and the last to corner 0; and the probe count
+-- what is found, counterclockwise, each with the edge that starts there; and how many probes were counted
 pub record State : Type 0 where
   pub found : List Found
   pub probes : ℕ
@@ -47,7 +47,7 @@ abbrev pub closed-list : List Found → Bool
 closed-list [] = false
 closed-list (c ∷ cs) = all-settled (c ∷ cs)
 
--- it has a corner and no open edge
+-- something is found, and every edge is settled
 abbrev pub closed : State → Bool
 closed s = closed-list (s .found)
 
@@ -72,7 +72,7 @@ edge-start cs i = getD cs i nothing .corner
 abbrev pub edge-end : List Found → ℕ → Point
 edge-end cs i = getD cs (next (length cs) i) nothing .corner
 
--- (1, 0) without corners, (-1, 0) with one, otherwise the normal of the first open edge
+-- at first one way along the x axis, then the other, and from then on outward from the first open edge
 abbrev pub question : List Found → Point
 question [] = east
 question (c ∷ []) = west
@@ -104,7 +104,7 @@ take-in s i u p =
     (record { says = Ok Corner; leaves = record { found = inserted (s .found) i (record { corner = p; asked = u; settled = false }); probes = s .probes + 1 } })
     (unchanged s (Err (fault TooManyCorners 0)))
 
--- the answer p to the question u about edge i: the edge's end settles it, another point goes in between
+-- an answer p at the end of edge i settles it; any other becomes a corner between its ends
 abbrev pub about-edge : State → ℕ → Point → Point → Probed
 about-edge s i u p = cond (same p (edge-end (s .found) i)) (settling s i) (take-in s (i + 1) u p)
 
@@ -143,7 +143,7 @@ follow (Ok Settled) s rest = one-more rest
 follow (Ok Closed) s rest = ends s ended.Closed
 follow (Err f) s rest = ends s (ended.Refused f)
 
--- probes until closed, refused or spent; closed goes before spent
+-- one probe after the other, while there is budget and each finds or settles something
 abbrev pub run : Meaning → ℕ → State → Run
 run m zero s = ends s (cond (closed s) ended.Closed ended.Spent)
 run m (suc budget) s = follow (probe m s .says) s (run m budget (probe m s .leaves))

@@ -36,7 +36,7 @@ impl<A> Survey<A> {
         }
     }
 
-    // Whether there is a corner and no open edge.
+    // Whether something is found and every edge is settled.
     pub(crate) fn is_closed(&self) -> bool
         ensures { λ r. ⌜ r ≡ closed (state (now (self .entry))) ⌝ }
     {

@@ -8,7 +8,7 @@ use crate::survey::Survey;
 use body::body::Body;
 
 impl<A: Body> Survey<A> {
-    // Probes until closed, refused or spent; the probes made before a refused one stay.
+    // Makes probes while the budget lasts, and tells how many were counted and what ended it.
     pub fn run(&mut self, budget: u32) -> Ran
         ensures held { λ _. ⌜ now (self .exit) .body ≡ now (self .entry) .body ⌝ }
         ensures tells { λ r. ⌜ r ≡ ran (A·Body .meaning (now (self .entry) .body)) budget (state (now (self .entry))) .tells ⌝ }

@@ -1,3 +1,4 @@
+-- The three ways out: the run refused, the reading refused, the outline read.
 use mathlib.Core.Path.{refl, ap, sym, _∙_}
 use Rattle.std.specs.declared.result.Result.the-variants.{Ok, Err}
 use Rattle.std.proofs.shelf.Results.{err-from-errBy}

@@ -1,3 +1,4 @@
+-- A run from the opening, long enough for any survey.
 use mathlib.Core.Path.{ap, _∙_}
 use Rattle.survey.specs.Rules.{run, until-closed}
 use Rattle.lemburat.proofs.surveyed.Needs as need

@@ -1,3 +1,4 @@
+-- The walk for the support point: the best so far, carried on.
 use mathlib.Core.Bool.{cond}
 use mathlib.Core.Path.{_≡_, refl, sym, _∙_, subst}
 use lib.ListN.{getD}

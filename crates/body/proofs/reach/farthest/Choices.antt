@@ -1,3 +1,4 @@
+-- The best so far and the points that are left give the support point.
 use mathlib.Core.Path.{_≡_}
 use lib.ListN.{drop}
 use Rattle.plane.specs.Plane.{vector}

@@ -1,3 +1,4 @@
+-- The walk for the first point beyond the limit.
 use native.Mathlib.Omega.{arith}
 use Rattle.body.specs.Set.{first-beyond}
 use Rattle.body.proofs.Walks.{within-more, beyond-found, within-all}

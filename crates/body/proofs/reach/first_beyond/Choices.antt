@@ -1,3 +1,4 @@
+-- All points before place i are within the limit.
 use Prim.Native.Nat.{_+_}
 use mathlib.Core.Path.{_≡_}
 use lib.ListN.{drop}

@@ -1,3 +1,4 @@
+-- The place of a point fits 32 bits, since the list is short.
 use native.Mathlib.Omega.{arith}
 use Rattle.body.proofs.Walks.{first-beyond-low}
 use Rattle.body.proofs.reach.judge.Needs as need

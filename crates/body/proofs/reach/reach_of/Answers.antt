@@ -1,3 +1,4 @@
+-- The walk for the reach.
 use Rattle.body.proofs.Walks.{reach-more, reach-all}
 use Rattle.body.proofs.reach.reach_of.Needs as need
 

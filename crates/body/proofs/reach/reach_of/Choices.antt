@@ -1,3 +1,4 @@
+-- The greatest size so far and that of the points left give the reach.
 use Prim.Native.Nat.{max}
 use mathlib.Core.Path.{_≡_}
 use lib.ListN.{drop}

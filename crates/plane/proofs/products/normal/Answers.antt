@@ -1,3 +1,4 @@
+-- The two components that are handed in are those of the normal.
 use lib.IntN.{pos, negℤ, _-ℤ_}
 use mathlib.Core.Path.{_≡_, subst}
 use native.Mathlib.Omega.{arith}

@@ -1,3 +1,4 @@
+-- The product fits 64 bits and is exact.
 use mathlib.Core.Path.{_∙_}
 use lib.IntN.{_*ℤ_}
 use mir.Syntax.{w64}

@@ -1,3 +1,4 @@
+-- What the loop leaves is the list with x put in.
 use native.Mathlib.Omega.{arith}
 use Rattle.survey.proofs.Inserting.{shifted}
 use Rattle.survey.proofs.insert.insert_at.Needs as need

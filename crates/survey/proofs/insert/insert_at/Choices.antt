@@ -1,3 +1,4 @@
+-- Items above place k have moved up by one, the others stand.
 use Prim.Native.Nat.{ℕ, _-_, _≤_, _<_}
 use mathlib.Core.Path.{_≡_}
 use lib.ListN.{getD}

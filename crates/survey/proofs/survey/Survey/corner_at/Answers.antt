@@ -1,3 +1,4 @@
+-- A corner of the table is the one of the list.
 use mathlib.Core.Path.{sym}
 use native.Mathlib.Omega.{arith}
 use Rattle.survey.proofs.Marks.{corner-front, asked-front}

@@ -1,3 +1,4 @@
+-- The end of the first open edge: the next corner, or corner 0.
 use mathlib.Core.Path.{sym}
 use native.Mathlib.Omega.{arith}
 use Rattle.survey.proofs.Marks.{edge-end-next, edge-end-last}

@@ -1,3 +1,4 @@
+-- As many are found as are counted.
 use mathlib.Core.Path.{refl, sym}
 use Rattle.survey.proofs.Steps.{length-state}
 use Rattle.survey.proofs.survey.Survey.found.Needs as need

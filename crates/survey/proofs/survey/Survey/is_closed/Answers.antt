@@ -1,3 +1,4 @@
+-- Closed, by the number of settled edges.
 use native.Mathlib.Omega.{arith}
 use Rattle.survey.proofs.Marks.{closed-is}
 use Rattle.survey.proofs.survey.Survey.is_closed.Needs as need

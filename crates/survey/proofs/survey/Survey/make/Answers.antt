@@ -1,3 +1,4 @@
+-- An outline that is read into a part of the buffer.
 use mathlib.Core.List.{List, _++_}
 use mathlib.Core.Path.{refl, ap, sym, _∙_}
 use Rattle.plane.specs.declared.point.Point.{Point}

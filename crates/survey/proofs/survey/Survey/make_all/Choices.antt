@@ -1,3 +1,4 @@
+-- What the loop over a log keeps.
 use mathlib.Core.List.{_++_}
 use mathlib.Core.Path.{_≡_}
 use lib.ListN.{take, drop}

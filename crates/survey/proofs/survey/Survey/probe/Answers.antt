@@ -1,3 +1,4 @@
+-- The probes that a body answers: a first corner, a settled edge, a corner between two.
 use mathlib.Core.Path.{ap, sym, _∙_}
 use native.Mathlib.Omega.{arith}
 use Rattle.plane.proofs.Points.{told-same, told-apart}

@@ -1,3 +1,4 @@
+-- With two corners or more the question is the normal of the first open edge.
 use mathlib.Core.Path.{sym, subst}
 use lib.ListN.{getD}
 use native.Mathlib.Omega.{arith}

@@ -1,3 +1,4 @@
+-- One turn of a run: it goes on, or ends closed or refused.
 use mathlib.Core.Path.{refl, ap, sym, _∙_}
 use Rattle.std.specs.declared.result.Result.the-variants.{Ok, Err}
 use Rattle.survey.specs.declared.call.Said.the-variants.{Closed}

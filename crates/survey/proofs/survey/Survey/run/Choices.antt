@@ -1,3 +1,4 @@
+-- The body is the same, and the probes made so far, with a run on what is left of the budget, give the whole run.
 use Prim.Native.Nat.{_-_}
 use mathlib.Core.Path.{_≡_}
 use Rattle.survey.specs.Rules.{run}

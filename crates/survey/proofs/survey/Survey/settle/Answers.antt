@@ -1,3 +1,4 @@
+-- One settled edge more.
 use mathlib.Core.List.{List}
 use mathlib.Core.Path.{refl, ap}
 use Prim.Native.Nat.{_+_}

@@ -1,3 +1,4 @@
+-- A corner taken in, or none for want of room.
 use mathlib.Core.List.{List}
 use mathlib.Core.Path.{refl, ap, sym, _∙_}
 use Prim.Native.Nat.{_+_}

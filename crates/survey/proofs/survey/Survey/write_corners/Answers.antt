@@ -1,3 +1,4 @@
+-- The corners, written one after the other.
 use native.Mathlib.Omega.{arith}
 use Rattle.survey.proofs.Readings.{written-all, written-more}
 use Rattle.survey.proofs.survey.Survey.write_corners.Needs as need

@@ -1,3 +1,4 @@
+-- The first i slots hold the first i corners, and the others what they held.
 use mathlib.Core.List.{_++_, map}
 use mathlib.Core.Path.{_≡_}
 use lib.ListN.{take, drop}
