@@ -7,9 +7,9 @@ use Rattle.std.specs.declared.result.Result.the-variants.{Ok, Err}
 use Rattle.plane.specs.declared.fault.Fault.{Fault}
 use Rattle.plane.specs.declared.point.Point.{Point}
 use Rattle.body.specs.Meaning.{Meaning}
-use Rattle.survey.specs.declared.call.Ended.{Ended}
-use Rattle.survey.specs.declared.call.Ended.the-variants.{Closed, Spent, Refused}
-use Rattle.survey.specs.declared.call.Ran.{Ran}
+use Rattle.calls.specs.declared.Ended.{Ended}
+use Rattle.calls.specs.declared.Ended.the-variants.{Closed, Spent, Refused}
+use Rattle.calls.specs.declared.Ran.{Ran}
 use Rattle.survey.specs.Rules.{State, until-closed}
 use Rattle.survey.specs.Calls.{Outlined, no-outline, read-counts, read-outline}
 use Rattle.lemburat.specs.Outline.{read-after, counted, outline-of, counts-of}

@@ -5,12 +5,12 @@ ghost use Rattle.lemburat.specs.Outline.{outline-of, counts-of};
 use body::body::Body;
 use body::set::Set;
 use body::set::SetBody;
+use calls::Counts;
+use calls::Ended;
+use calls::Ran;
 use plane::fault::Fault;
 use plane::point::Point;
 use std::io;
-use survey::call::Counts;
-use survey::call::Ended;
-use survey::call::Ran;
 use survey::survey::Survey;
 
 // A rectangle of 2 by 1 whose upper side is measured at its middle too.

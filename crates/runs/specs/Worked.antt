@@ -8,8 +8,8 @@ use Rattle.plane.specs.declared.point.Point.{Point}
 use Rattle.plane.specs.Fault.{number}
 use Rattle.plane.specs.Plane.{point, same}
 use Rattle.body.specs.Set.{set-meaning}
-use Rattle.survey.specs.declared.call.Ended.{Ended}
-use Rattle.survey.specs.declared.call.Ended.the-variants as ended
+use Rattle.calls.specs.declared.Ended.{Ended}
+use Rattle.calls.specs.declared.Ended.the-variants as ended
 use Rattle.survey.specs.Rules.{State, corners, until-closed}
 
 pub data Run-of : Type 0 where

@@ -11,7 +11,7 @@ use mathlib.Core.Path.{_≡_, refl, ap, sym, _∙_}
 use Rattle.std.specs.shelf.Lists.{inserted}
 use Rattle.std.proofs.shelf.Lists.{length-take-le, getD-take}
 use Rattle.std.proofs.shelf.Tests.{lt-ltb, le-ltb, eq-eqb, ne-eqb, eqb-false, cases-eq, cond-true, cond-false}
-use Rattle.survey.specs.declared.call.Corner.{Corner}
+use Rattle.calls.specs.declared.Corner.{Corner}
 use Rattle.survey.specs.Rules.{Found, closed-list, all-settled, first-open, nothing, edge-start, edge-end, settle}
 use Rattle.survey.specs.State.{mark, found-by, marked}
 

@@ -6,7 +6,7 @@ use mathlib.Core.List.{List, [], _∷_, _++_, map}
 use mathlib.Core.Path.{_≡_, refl, ap, sym, _∙_}
 use Rattle.std.proofs.shelf.Lists.{append-assoc, length-map, length-take-le, set-append-right, drop-more, map-more}
 use Rattle.plane.specs.declared.point.Point.{Point}
-use Rattle.survey.specs.declared.call.Corner.{Corner}
+use Rattle.calls.specs.declared.Corner.{Corner}
 use Rattle.survey.specs.declared.survey.Survey.{Survey}
 use Rattle.survey.specs.Rules.{Found, corners}
 use Rattle.survey.specs.State.{marked, state}

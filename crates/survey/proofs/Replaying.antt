@@ -11,9 +11,9 @@ use Rattle.std.proofs.shelf.Lists.{append-assoc, append-nil, take-all, drop-all
 use Rattle.std.proofs.shelf.Tests.{cases-lt}
 use Rattle.plane.specs.declared.point.Point.{Point}
 use Rattle.body.specs.Meaning.{Meaning}
-use Rattle.survey.specs.declared.call.Call.{Call}
-use Rattle.survey.specs.declared.call.Entry.{Entry}
-use Rattle.survey.specs.declared.call.Told.{Told}
+use Rattle.calls.specs.declared.Call.{Call}
+use Rattle.calls.specs.declared.Entry.{Entry}
+use Rattle.calls.specs.declared.Told.{Told}
 use Rattle.survey.specs.Calls.{Stand, Tells, make, leaves-from, tells-from, telling, calls-of, told-of, each-told}
 
 -- ---- the first slots of a buffer, or all that it has

@@ -8,10 +8,10 @@ use Rattle.std.specs.declared.result.Result.{Result}
 use Rattle.std.specs.declared.result.Result.the-variants.{Ok}
 use Rattle.plane.specs.declared.fault.Fault.{Fault}
 use Rattle.body.specs.Meaning.{Meaning}
-use Rattle.survey.specs.declared.call.Said.{Said}
-use Rattle.survey.specs.declared.call.Said.the-variants.{Corner, Settled, Closed}
-use Rattle.survey.specs.declared.call.Ended.{Ended}
-use Rattle.survey.specs.declared.call.Ended.the-variants as ended
+use Rattle.calls.specs.declared.Said.{Said}
+use Rattle.calls.specs.declared.Said.the-variants.{Corner, Settled, Closed}
+use Rattle.calls.specs.declared.Ended.{Ended}
+use Rattle.calls.specs.declared.Ended.the-variants as ended
 use Rattle.survey.specs.Rules.{State, Run, closed, probe, ends, one-more, follow, run}
 
 -- a run that k counted probes came before

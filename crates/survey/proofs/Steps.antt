@@ -22,8 +22,8 @@ use Rattle.plane.proofs.Points.{same-yes, same-no}
 use Rattle.plane.proofs.Supporting.{some-way}
 use Rattle.body.specs.Meaning.{Meaning, Answers}
 use Rattle.body.proofs.Answering.{answers-is}
-use Rattle.survey.specs.declared.call.Corner.{Corner}
-use Rattle.survey.specs.declared.call.Said.the-variants.{Corner as a-corner, Closed}
+use Rattle.calls.specs.declared.Corner.{Corner}
+use Rattle.calls.specs.declared.Said.the-variants.{Corner as a-corner, Closed}
 use Rattle.survey.specs.Rules.{State, Found, closed, question, first-open, edge-start, edge-end, take-in, unchanged, settle, settling, about-edge, by-point, by-answer, asks, probe}
 use Rattle.survey.specs.declared.survey.Survey.{Survey}
 use Rattle.survey.specs.State.{mark, marked, state}

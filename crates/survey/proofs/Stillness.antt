@@ -17,8 +17,8 @@ use Rattle.plane.specs.Directed.{directed, no-direction}
 use Rattle.plane.specs.Fault.{fault}
 use Rattle.plane.specs.Plane.{same}
 use Rattle.body.specs.Meaning.{Meaning, answer}
-use Rattle.survey.specs.declared.call.Said.{Said}
-use Rattle.survey.specs.declared.call.Said.the-variants.{Corner, Settled, Closed}
+use Rattle.calls.specs.declared.Said.{Said}
+use Rattle.calls.specs.declared.Said.the-variants.{Corner, Settled, Closed}
 use Rattle.survey.specs.Rules.{State, Found, Probed, closed, question, first-open, edge-end, unchanged, take-in, about-edge, by-point, by-answer, probe}
 
 abbrev Still : State → Probed → Type 0

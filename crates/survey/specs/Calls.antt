@@ -14,15 +14,15 @@ use Rattle.plane.specs.declared.fault.Fault.{Fault}
 use Rattle.plane.specs.declared.point.Point.{Point}
 use Rattle.plane.specs.Fault.{fault}
 use Rattle.body.specs.Meaning.{Meaning}
-use Rattle.survey.specs.declared.call.Call.{Call}
-use Rattle.survey.specs.declared.call.Call.the-variants as call
-use Rattle.survey.specs.declared.call.Corner.{Corner}
-use Rattle.survey.specs.declared.call.Counts.{Counts}
-use Rattle.survey.specs.declared.call.Entry.{Entry}
-use Rattle.survey.specs.declared.call.Ran.{Ran}
-use Rattle.survey.specs.declared.call.Said.{Said}
-use Rattle.survey.specs.declared.call.Told.{Told}
-use Rattle.survey.specs.declared.call.Told.the-variants as told
+use Rattle.calls.specs.declared.Call.{Call}
+use Rattle.calls.specs.declared.Call.the-variants as call
+use Rattle.calls.specs.declared.Corner.{Corner}
+use Rattle.calls.specs.declared.Counts.{Counts}
+use Rattle.calls.specs.declared.Entry.{Entry}
+use Rattle.calls.specs.declared.Ran.{Ran}
+use Rattle.calls.specs.declared.Said.{Said}
+use Rattle.calls.specs.declared.Told.{Told}
+use Rattle.calls.specs.declared.Told.the-variants as told
 use Rattle.survey.specs.declared.survey.Survey.{Survey}
 use Rattle.survey.specs.Rules.{State, opened, corners, closed, nothing, probe, run}
 use Rattle.survey.specs.State.{found-by, state}

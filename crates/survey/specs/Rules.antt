@@ -14,11 +14,11 @@ use Rattle.plane.specs.Directed.{directed, no-direction}
 use Rattle.plane.specs.Fault.{fault}
 use Rattle.plane.specs.Plane.{origin, east, west, normal, same}
 use Rattle.body.specs.Meaning.{Meaning, answer}
-use Rattle.survey.specs.declared.call.Said.{Said}
-use Rattle.survey.specs.declared.call.Said.the-variants.{Corner, Settled, Closed}
-use Rattle.survey.specs.declared.call.Ended.{Ended}
-use Rattle.survey.specs.declared.call.Ended.the-variants as ended
-use Rattle.survey.specs.declared.call.Ran.{Ran}
+use Rattle.calls.specs.declared.Said.{Said}
+use Rattle.calls.specs.declared.Said.the-variants.{Corner, Settled, Closed}
+use Rattle.calls.specs.declared.Ended.{Ended}
+use Rattle.calls.specs.declared.Ended.the-variants as ended
+use Rattle.calls.specs.declared.Ran.{Ran}
 
 -- ---- the state
 

@@ -5,7 +5,7 @@ use Prim.Native.Nat.{ℕ, zero, suc}
 use lib.ListN.{take}
 use Rattle.plane.specs.declared.point.Point.{Point}
 use Rattle.plane.specs.Plane.{vector}
-use Rattle.survey.specs.declared.call.Corner.{Corner}
+use Rattle.calls.specs.declared.Corner.{Corner}
 use Rattle.survey.specs.declared.survey.Survey.{Survey}
 use Rattle.survey.specs.Rules.{Found, State}
 

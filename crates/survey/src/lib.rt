@@ -1,4 +1,3 @@
-pub mod call;
 mod insert;
 pub mod probe;
 pub mod read;

@@ -1,10 +1,10 @@
 ghost use mathlib.Core.Path.{_≡_};
 ghost use Rattle.survey.specs.Calls.{make as made, stand, telling, leaves-from, tells-from, surveyed, all-told, calls-of, told-of, each-told};
-use crate::call::Call;
-use crate::call::Entry;
-use crate::call::Told;
 use crate::survey::Survey;
 use body::body::Body;
+use calls::Call;
+use calls::Entry;
+use calls::Told;
 use plane::point::Point;
 
 impl<A: Body> Survey<A> {

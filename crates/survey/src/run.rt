@@ -1,11 +1,11 @@
 ghost use mathlib.Core.Path.{_≡_};
 ghost use Rattle.survey.specs.Rules.{run as ran};
 ghost use Rattle.survey.specs.State.{state};
-use crate::call::Ended;
-use crate::call::Ran;
-use crate::call::Said;
 use crate::survey::Survey;
 use body::body::Body;
+use calls::Ended;
+use calls::Ran;
+use calls::Said;
 
 impl<A: Body> Survey<A> {
     // Makes probes while the budget lasts, and tells how many were counted and what ended it.

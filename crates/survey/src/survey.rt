@@ -1,7 +1,7 @@
 ghost use mathlib.Core.Path.{_≡_};
 ghost use Prim.Native.Nat.{_+_, _≤_};
 ghost use lib.ListN.{length};
-use crate::call::Corner;
+use calls::Corner;
 
 // A survey of a body: its corners so far in outline order, of whose edges the first `settled` are settled.
 #[derive(Drop)]

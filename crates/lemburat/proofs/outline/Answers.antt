@@ -2,7 +2,7 @@
 use mathlib.Core.Path.{refl, ap, sym, _∙_}
 use Rattle.std.specs.declared.result.Result.the-variants.{Ok, Err}
 use Rattle.std.proofs.shelf.Results.{err-from-errBy}
-use Rattle.survey.specs.declared.call.Counts.{Counts}
+use Rattle.calls.specs.declared.Counts.{Counts}
 use Rattle.survey.specs.Calls.{Outlined, no-outline, read-outline}
 use Rattle.survey.specs.State.{state}
 use Rattle.lemburat.proofs.Outlines.{refused, read-on, refused-counts, read-counted}

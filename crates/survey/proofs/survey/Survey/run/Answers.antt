@@ -1,8 +1,8 @@
 -- One turn of a run: it goes on, or ends closed or refused.
 use mathlib.Core.Path.{refl, ap, sym, _∙_}
 use Rattle.std.specs.declared.result.Result.the-variants.{Ok, Err}
-use Rattle.survey.specs.declared.call.Said.the-variants.{Closed}
-use Rattle.survey.specs.declared.call.Ended.the-variants as ended
+use Rattle.calls.specs.declared.Said.the-variants.{Closed}
+use Rattle.calls.specs.declared.Ended.the-variants as ended
 use Rattle.survey.specs.Rules.{Run, probe}
 use Rattle.survey.specs.State.{state}
 use Rattle.survey.proofs.Runs.{counts-one, goes-on, stops}

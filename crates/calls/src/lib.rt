@@ -1,3 +1,5 @@
+// The calls on a survey and what they tell, as values.
+
 use plane::direction::Direction;
 use plane::direction::DirectionDebug;
 use plane::direction::DirectionPartialEq;
