@@ -52,12 +52,9 @@ sum-fits a b c d f g h k = omega (arith, sizes, abs-mul-le a b 2000000 214748364
 pub product-read : (a b t : ℤ) → SFits w32 a → SFits w32 b → t ≡ toZ w32 (ofZ w32 a) *ℤ toZ w32 (ofZ w32 b) → t ≡ a *ℤ b
 product-read a b t f g e = e ∙ (λ i. toZ-ofZ w32 a f i *ℤ toZ-ofZ w32 b g i)
 
--- the difference and the sum of two such results, as the code's numbers hold them
-pub difference-read : (s t x y : ℤ) → s ≡ x → t ≡ y → SFits w64 x → SFits w64 y → toZ w64 (ofZ w64 s) -ℤ toZ w64 (ofZ w64 t) ≡ x -ℤ y
-difference-read s t x y e f g h = (λ i. toZ w64 (ofZ w64 (e i)) -ℤ toZ w64 (ofZ w64 (f i))) ∙ (λ i. toZ-ofZ w64 x g i -ℤ toZ-ofZ w64 y h i)
-
-pub sum-read : (s t x y : ℤ) → s ≡ x → t ≡ y → SFits w64 x → SFits w64 y → toZ w64 (ofZ w64 s) +ℤ toZ w64 (ofZ w64 t) ≡ x +ℤ y
-sum-read s t x y e f g h = (λ i. toZ w64 (ofZ w64 (e i)) +ℤ toZ w64 (ofZ w64 (f i))) ∙ (λ i. toZ-ofZ w64 x g i +ℤ toZ-ofZ w64 y h i)
+-- two such results under an operation, as the code's numbers hold them
+pub pair-read : (op : ℤ → ℤ → ℤ) (s t x y : ℤ) → s ≡ x → t ≡ y → SFits w64 x → SFits w64 y → op (toZ w64 (ofZ w64 s)) (toZ w64 (ofZ w64 t)) ≡ op x y
+pair-read op s t x y e f g h = (λ i. op (toZ w64 (ofZ w64 (e i))) (toZ w64 (ofZ w64 (f i)))) ∙ (λ i. op (toZ-ofZ w64 x g i) (toZ-ofZ w64 y h i))
 
 -- a number that is read as one that fits
 pub fits-read : (s x : ℤ) → s ≡ x → SFits w64 x → SFits w64 s

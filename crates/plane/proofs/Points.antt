@@ -25,9 +25,6 @@ test-no : {X : Type 0} (t : Bool) → (t ≡ true → X) → (X → ⊥) → t �
 test-no true f n = absurd (n (f refl))
 test-no false f n = refl
 
-pub equal-no : (a b : ℤ) → (a ≡ b → ⊥) → equal a b ≡ false
-equal-no a b n = test-no (equal a b) (equal-true a b) n
-
 pub point-same : {p q : Point} → p .x ≡ q .x → p .y ≡ q .y → p ≡ q
 point-same e f = λ i. record { x = e i; y = f i }
 

@@ -1,7 +1,7 @@
 ghost use mathlib.Core.Path.{_≡_};
 ghost use Rattle.plane.specs.Fault.{number, fault};
 
-// Why a call comes back without its answer; `number` is what a refusal prints.
+// Why a call is refused; `number` is what is printed.
 #[derive(Clone, Copy, PartialEq, Eq, Debug)]
 pub enum Cause {
     TextTooLong = 1,

@@ -4,13 +4,14 @@ use native.Mathlib.Omega.{arith}
 use native.Mathlib.Numerals.{add-one}
 use lib.Dec.{eqb}
 use lib.ListN.{length, getD, take}
-use mathlib.Core.Bool.{true, false}
+use mathlib.Core.Bool.{Bool, true, false}
 use mathlib.Core.List.{List, [], _∷_}
 use mathlib.Core.Logic.{_⊎_, inl, inr}
 use mathlib.Core.Path.{_≡_, refl, ap, sym, _∙_}
 use Rattle.std.specs.shelf.Lists.{inserted}
 use Rattle.std.proofs.shelf.Lists.{length-take-le, getD-take}
 use Rattle.std.proofs.shelf.Tests.{lt-ltb, le-ltb, eq-eqb, ne-eqb, eqb-false, cases-eq, cond-true, cond-false}
+use Rattle.plane.specs.declared.point.Point.{Point}
 use Rattle.calls.specs.declared.Corner.{Corner}
 use Rattle.survey.specs.Rules.{Found, closed-list, all-settled, first-open, nothing, edge-start, edge-end, settle}
 use Rattle.survey.specs.State.{mark, found-by, marked}
@@ -20,19 +21,17 @@ length-marked n [] = refl
 length-marked zero (c ∷ cs) = ap suc (length-marked zero cs)
 length-marked (suc n) (c ∷ cs) = ap suc (length-marked n cs)
 
-pub corner-marked : (n : ℕ) (cs : List Corner) (i : ℕ) (d : Corner) → i < length cs → getD (marked n cs) i nothing .corner ≡ getD cs i d .at
-corner-marked n [] i d h = absurd (omega arith)
-corner-marked zero (c ∷ cs) zero d h = refl
-corner-marked (suc n) (c ∷ cs) zero d h = refl
-corner-marked zero (c ∷ cs) (suc i) d h = corner-marked zero cs i d (omega arith)
-corner-marked (suc n) (c ∷ cs) (suc i) d h = corner-marked n cs i d (omega arith)
+-- what f reads of a found corner, whatever its mark, g reads of the corner
+module _ (f : Found → Point) (g : Corner → Point) (e : (b : Bool) (c : Corner) → f (mark b c) ≡ g c) where
+  field-marked : (n : ℕ) (cs : List Corner) (i : ℕ) (d : Corner) → i < length cs → f (getD (marked n cs) i nothing) ≡ g (getD cs i d)
+  field-marked n [] i d h = absurd (omega arith)
+  field-marked zero (c ∷ cs) zero d h = e false c
+  field-marked (suc n) (c ∷ cs) zero d h = e true c
+  field-marked zero (c ∷ cs) (suc i) d h = field-marked zero cs i d (omega arith)
+  field-marked (suc n) (c ∷ cs) (suc i) d h = field-marked n cs i d (omega arith)
 
-pub asked-marked : (n : ℕ) (cs : List Corner) (i : ℕ) (d : Corner) → i < length cs → getD (marked n cs) i nothing .asked ≡ mark false (getD cs i d) .asked
-asked-marked n [] i d h = absurd (omega arith)
-asked-marked zero (c ∷ cs) zero d h = refl
-asked-marked (suc n) (c ∷ cs) zero d h = refl
-asked-marked zero (c ∷ cs) (suc i) d h = asked-marked zero cs i d (omega arith)
-asked-marked (suc n) (c ∷ cs) (suc i) d h = asked-marked n cs i d (omega arith)
+  field-front : (n k : ℕ) (cs : List Corner) (i : ℕ) (d : Corner) → k ≤ length cs → i < k → f (getD (marked n (take k cs)) i nothing) ≡ g (getD cs i d)
+  field-front n k cs i d h l = field-marked n (take k cs) i d (omega (arith, length-take-le k cs h)) ∙ ap g (getD-take k cs i d l)
 
 pub first-open-marked : (n : ℕ) (cs : List Corner) → n ≤ length cs → first-open (marked n cs) ≡ n
 first-open-marked zero [] h = refl
@@ -54,10 +53,6 @@ pub closed-yes : (n : ℕ) (cs : List Corner) → 0 < length cs → n ≡ length
 closed-yes n [] h e = absurd (omega arith)
 closed-yes zero (c ∷ cs) h e = absurd (omega arith)
 closed-yes (suc n) (c ∷ cs) h e = let k : n ≡ length cs = omega arith in ap (λ (m : ℕ). all-settled (marked m cs)) k ∙ all-settled-yes cs
-
-pub closed-none : (n : ℕ) (cs : List Corner) → length cs ≡ 0 → closed-list (marked n cs) ≡ false
-closed-none n [] h = refl
-closed-none n (c ∷ cs) h = absurd (omega arith)
 
 pub closed-no : (n : ℕ) (cs : List Corner) → n < length cs → closed-list (marked n cs) ≡ false
 closed-no n [] h = absurd (omega arith)
@@ -88,12 +83,10 @@ pub length-front : (n k : ℕ) (cs : List Corner) → k ≤ length cs → length
 length-front n k cs h = length-marked n (take k cs) ∙ length-take-le k cs h
 
 pub corner-front : (n k : ℕ) (cs : List Corner) (i : ℕ) (d : Corner) → k ≤ length cs → i < k → getD (marked n (take k cs)) i nothing .corner ≡ getD cs i d .at
-corner-front n k cs i d h l =
-    corner-marked n (take k cs) i d (omega (arith, length-take-le k cs h)) ∙ ap (λ (c : Corner). c .at) (getD-take k cs i d l)
+corner-front n k cs i d h l = field-front (λ f. f .corner) (λ c. c .at) (λ b c. refl) n k cs i d h l
 
 pub asked-front : (n k : ℕ) (cs : List Corner) (i : ℕ) (d : Corner) → k ≤ length cs → i < k → getD (marked n (take k cs)) i nothing .asked ≡ found-by (getD cs i d)
-asked-front n k cs i d h l =
-    asked-marked n (take k cs) i d (omega (arith, length-take-le k cs h)) ∙ ap found-by (getD-take k cs i d l)
+asked-front n k cs i d h l = field-front (λ f. f .asked) found-by (λ b c. refl) n k cs i d h l
 
 pub edge-end-next : (n k : ℕ) (cs : List Corner) (d : Corner) → k ≤ length cs → n + 1 < k → edge-end (marked n (take k cs)) n ≡ getD cs (n + 1) d .at
 edge-end-next n k cs d h l =

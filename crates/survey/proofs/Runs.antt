@@ -13,13 +13,11 @@ use Rattle.calls.specs.declared.Said.the-variants.{Corner, Settled, Closed}
 use Rattle.calls.specs.declared.Ended.{Ended}
 use Rattle.calls.specs.declared.Ended.the-variants as ended
 use Rattle.survey.specs.Rules.{State, Run, closed, probe, ends, one-more, follow, run}
+use Rattle.survey.proofs.Stillness.{still}
 
 -- a run that k counted probes came before
 abbrev pub after : ℕ → Run → Run
 after k r = record { tells = record { made = k + r .tells .made; ended = r .tells .ended }; leaves = r .leaves }
-
-pub after-none : (r : Run) → r ≡ after 0 r
-after-none r = ap (λ (n : ℕ). record { tells = record { made = n; ended = r .tells .ended }; leaves = r .leaves }) (omega arith)
 
 after-one : (k : ℕ) (r : Run) → after k (one-more r) ≡ after (k + 1) r
 after-one k r = ap (λ (n : ℕ). record { tells = record { made = n; ended = r .tells .ended }; leaves = r .leaves }) (omega arith)
@@ -40,8 +38,17 @@ module _ (m : Meaning) (b k : ℕ) (s : State) (r : Result Said Fault) (e : r �
       ∙ after-one k (run m (b - (k + 1)) (probe m s .leaves))
       ∙ ap (λ (x : State). after (k + 1) (run m (b - (k + 1)) x)) (sym l)
 
-  pub stops : (x : Ended) (all : Run) → k < b → ((rest : Run) → follow r s rest ≡ ends s x) → all ≡ after k (run m (b - k) s) → all ≡ record { tells = record { made = k; ended = x }; leaves = s }
-  stops x all h stop inv = inv ∙ ap (after k) (step h ∙ stop (run m (b - (k + 1)) (probe m s .leaves))) ∙ after-ends k s x
+  -- a probe that ends the run changes nothing
+  idle : (x : Ended) → ((rest : Run) → follow r s rest ≡ ends s x) → probe m s .leaves ≡ s
+  idle x stop = still m s r e (λ h. counted (λ rest. sym (ap (λ (y : Result Said Fault). follow y s rest) h) ∙ stop rest)) (λ h. counted (λ rest. sym (ap (λ (y : Result Said Fault). follow y s rest) h) ∙ stop rest))
+    where
+      counted : ((rest : Run) → one-more rest ≡ ends s x) → ⊥
+      counted h = omega (arith, ap (λ (q : Run). q .tells .made) (h (ends s x)))
+
+  pub stops : (x : Ended) (t : State) (all : Run) → k < b → ((rest : Run) → follow r s rest ≡ ends s x) → t ≡ probe m s .leaves → all ≡ after k (run m (b - k) s) → (record { made = k; ended = x } ≡ all .tells) × (t ≡ all .leaves)
+  stops x t all h stop l inv =
+      let whole = inv ∙ ap (after k) (step h ∙ stop (run m (b - (k + 1)) (probe m s .leaves))) ∙ after-ends k s x in
+      (sym (ap (λ (q : Run). q .tells) whole), l ∙ idle x stop ∙ sym (ap (λ (q : Run). q .leaves) whole))
 
 -- the budget is spent
 pub spent : (m : Meaning) (b k : ℕ) (s : State) (all : Run) → k ≡ b → all ≡ after k (run m (b - k) s) → all ≡ record { tells = record { made = b; ended = cond (closed s) ended.Closed ended.Spent }; leaves = s }

@@ -15,7 +15,7 @@ use Rattle.plane.specs.declared.direction.Direction.{Direction}
 use Rattle.plane.specs.declared.fault.Cause.the-variants.{TooManyCorners}
 use Rattle.plane.specs.declared.fault.Fault.{Fault}
 use Rattle.plane.specs.declared.point.Point.{Point}
-use Rattle.plane.specs.Directed.{directed, no-direction}
+use Rattle.plane.specs.Directed.{directed}
 use Rattle.plane.specs.Fault.{fault}
 use Rattle.plane.specs.Plane.{vector, normal}
 use Rattle.plane.proofs.Points.{same-yes, same-no}
@@ -23,7 +23,7 @@ use Rattle.plane.proofs.Supporting.{some-way}
 use Rattle.body.specs.Meaning.{Meaning, Answers}
 use Rattle.body.proofs.Answering.{answers-is}
 use Rattle.calls.specs.declared.Corner.{Corner}
-use Rattle.calls.specs.declared.Said.the-variants.{Corner as a-corner, Closed}
+use Rattle.calls.specs.declared.Said.the-variants.{Corner as a-corner}
 use Rattle.survey.specs.Rules.{State, Found, closed, question, first-open, edge-start, edge-end, take-in, unchanged, settle, settling, about-edge, by-point, by-answer, asks, probe}
 use Rattle.survey.specs.declared.survey.Survey.{Survey}
 use Rattle.survey.specs.State.{mark, marked, state}
@@ -60,12 +60,6 @@ pub directed-yes : (d : Direction) → directed (vector d) ≡ true
 directed-yes d = and-from _ _ (lt-ltb 0 (natAbs (d .x) + natAbs (d .y)) (d .some)) (and-from _ _ (le-leb (natAbs (d .x)) 2000000 (d .wide)) (le-leb (natAbs (d .y)) 2000000 (d .high)))
 
 -- ---- a probe, by what the body answers
-
-pub probe-closed : (m : Meaning) (s : State) → closed s ≡ true → probe m s ≡ unchanged s (Ok Closed)
-probe-closed m s h = cond-true _ _ _ h
-
-pub probe-no-direction : (m : Meaning) (s : State) → closed s ≡ false → directed (question (s .found)) ≡ false → probe m s ≡ unchanged s (Err no-direction)
-probe-no-direction m s h k = cond-false _ _ _ h ∙ cond-false _ _ _ k
 
 pub probe-asked : (m : Meaning) (s : State) (d : Direction) (r : Result Point Fault) → closed s ≡ false → vector d ≡ question (s .found) → Answers m (vector d) r → probe m s ≡ by-answer s (vector d) r
 probe-asked m s d r h e a =

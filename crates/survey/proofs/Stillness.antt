@@ -56,9 +56,6 @@ module _ (m : Meaning) (s : State) (r : Result Said Fault) (e : r ≡ probe m s 
       go (inr (inl h)) = absurd (not-settled (e ∙ h))
       go (inr (inr h)) = h
 
-pub closed-still : (m : Meaning) (s : State) → Ok Closed ≡ probe m s .says → probe m s .leaves ≡ s
-closed-still m s e = still m s (Ok Closed) e (λ h. let z : _≡_ {A = ℕ} 0 1 = cc in omega arith) (λ h. let z : _≡_ {A = ℕ} 0 1 = cc in omega arith)
-
 pub refused-still : (m : Meaning) (s : State) (f : Fault) → Err f ≡ probe m s .says → probe m s .leaves ≡ s
 refused-still m s f e = still m s (Err f) e (λ h. let z : _≡_ {A = ℕ} 0 1 = cc in omega arith) (λ h. let z : _≡_ {A = ℕ} 0 1 = cc in omega arith)
 
