@@ -1,3 +1,5 @@
+#![tactic(auto)]
+
 // The calls on a survey and what they tell, as values.
 
 use plane::direction::Direction;

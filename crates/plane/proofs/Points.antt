@@ -1,6 +1,8 @@
 -- The tests of equality of numbers and points tell what they say.
-use Rattle.std.proofs.Common.{◌≡◌, Bool, true, false, ℤ, pos, negsuc, Decides, refl, ap, subst}
+use Rattle.std.proofs.Common.{◌≡◌, Bool, true, false, ◌&&◌, ℤ, pos, negsuc, sym, refl, ap, ◌∙◌, subst}
+use Rattle.std.specs.Ordering.{int_eq}
 use Rattle.std.proofs.lemmas.Bool.{eqb-true, eq-eqb, and_parts, and_from, both_ways, false≢true}
+use Rattle.std.proofs.lemmas.Bool.Decides.{Decides-int_eq}
 use Rattle.plane.specs.declared.point.Point.{Point}
 use Rattle.plane.specs.Plane.{equal, same}
 
@@ -35,8 +37,11 @@ pub same_no : (p q : Point) → (p ≡ q → ⊥) → same p q ≡ false
 same_no p q n = test_no (same p q) (same_true p q) n
 
 -- what `==` on points tells
-pub told_same : (p q : Point) → Decides true (p.x ≡ q.x) × Decides true (p.y ≡ q.y) → p ≡ q
-told_same p q h = point_same (h.0.0 refl) (h.1.0 refl)
+pub told_same : (p q : Point) → true ≡ (int_eq p.x q.x && int_eq p.y q.y) → p ≡ q
+told_same p q h =
+    let k = and_parts (int_eq p.x q.x) (int_eq p.y q.y) (sym h) in
+    point_same ((Decides-int_eq p.x q.x).0 k.0) ((Decides-int_eq p.y q.y).0 k.1)
 
-pub told_apart : (p q : Point) → ((Decides false (p.x ≡ q.x) → ⊥) → (Decides false (p.y ≡ q.y) → ⊥) → ⊥) → p ≡ q → ⊥
-told_apart p q h e = h (λ d. false≢true (d.1 (λ i. (e i).x))) (λ d. false≢true (d.1 (λ i. (e i).y)))
+pub told_apart : (p q : Point) → false ≡ (int_eq p.x q.x && int_eq p.y q.y) → p ≡ q → ⊥
+told_apart p q h e =
+    false≢true (h ∙ and_from _ _ ((Decides-int_eq p.x q.x).1 (λ i. (e i).x)) ((Decides-int_eq p.y q.y).1 (λ i. (e i).y)))

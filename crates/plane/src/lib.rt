@@ -1,3 +1,5 @@
+#![tactic(auto)]
+
 pub mod direction;
 pub mod fault;
 pub mod point;

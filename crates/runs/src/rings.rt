@@ -6,28 +6,25 @@ use plane::point::Point;
 use std::process::Abort;
 use std::test::Fail;
 
-fn faulty(rt: &impl Abort, corners: &[Point], cause: Cause, place: u32) -> Result<(), Fail> {
+fn faulty(rt: &impl Abort, corners: &[Point], cause: Cause, place: u32) {
     refuses(rt, Ring::new(corners), Fault::new(cause, place));
-    Ok(())
 }
 
-fn unlawful(rt: &impl Abort, corners: &[Point], step: u32) -> Result<(), Fail> {
-    faulty(rt, corners, Cause::UnlawfulStep, step)
+fn unlawful(rt: &impl Abort, corners: &[Point], step: u32, why: &str) {
+    let fault = Fault::new(Cause::UnlawfulStep, step);
+    assert_eq!(rt; Ring::new(corners).verdict(), Err(fault), "{why}");
+    faulty(rt, corners, Cause::UnlawfulStep, step);
 }
 
 #[test]
-fn unlawful_steps(rt: HostRuntime) -> Result<(), Fail> {
-    unlawful(&rt, &points![0, 0; 2, 0; 2, 2], 2).note("the last step falls")?;
-    unlawful(&rt, &points![0, 0; 2, 0], 1).note("of two corners only the rise counts")?;
-    unlawful(&rt, &points![5, 5; 5, 5], 1).note("a last step that ends where it starts")?;
-    unlawful(&rt, &points![2, 2; 1, 1; 0, 0; 2, 0], 1).note("no turn at (1, 1)")?;
-    unlawful(&rt, &points![2, 2; 2, 0; 0, 0], 0).note("clockwise")?;
-    unlawful(
-        &rt,
-        &points![2, 2; 0, 2; 0, 0; 2, 0; 2, 2; 0, 2; 0, 0; 2, 0],
-        4,
-    )
-    .note("twice round")
+fn unlawful_steps(rt: HostRuntime) {
+    unlawful(&rt, &points![0, 0; 2, 0; 2, 2], 2, "the last step falls");
+    unlawful(&rt, &points![0, 0; 2, 0], 1, "of two corners only the rise counts");
+    unlawful(&rt, &points![5, 5; 5, 5], 1, "a last step that ends where it starts");
+    unlawful(&rt, &points![2, 2; 1, 1; 0, 0; 2, 0], 1, "no turn at (1, 1)");
+    unlawful(&rt, &points![2, 2; 2, 0; 0, 0], 0, "clockwise");
+    let twice = points![2, 2; 0, 2; 0, 0; 2, 0; 2, 2; 0, 2; 0, 0; 2, 0];
+    unlawful(&rt, &twice, 4, "twice round");
 }
 
 #[test]
@@ -53,9 +50,10 @@ fn closes(rt: &impl Abort, corners: &mut [Point]) -> Result<(), Fail> {
 }
 
 #[test]
-fn faulty_rings(rt: HostRuntime) -> Result<(), Fail> {
-    faulty(&rt, &[], Cause::NoPoints, 0)?;
-    faulty(&rt, &[Point { x: 0, y: 0 }; 257], Cause::TooManyPoints, 256)?;
+fn faulty_rings(rt: HostRuntime) {
+    faulty(&rt, &[], Cause::NoPoints, 0);
+    faulty(&rt, &[Point { x: 0, y: 0 }; 257], Cause::TooManyPoints, 256);
+    // before any step
     let far = points![0, 0; 2, 1_000_001; 2, 2];
-    faulty(&rt, &far, Cause::BeyondReach, 1).note("before any step")
+    faulty(&rt, &far, Cause::BeyondReach, 1);
 }

@@ -3,7 +3,7 @@ use Rattle.std.proofs.Common.{◌≡◌, ℕ, suc, ◌+◌, ◌-◌, ◌<◌, co
 use Rattle.plane.specs.declared.fault.Fault.{Fault}
 use Rattle.body.specs.Meaning.{Meaning}
 use Rattle.calls.specs.declared.Said.{Said}
-use Rattle.calls.specs.declared.Said.TheVariants.{Corner, Settled, Closed}
+use Rattle.calls.specs.declared.Said.TheVariants.{Corner, Settled}
 use Rattle.calls.specs.declared.Ended.{Ended}
 use Rattle.calls.specs.declared.Ended.TheVariants as ended
 use Rattle.survey.specs.Rules.{State, Run, closed, probe, ends, one_more, follow, run}

@@ -18,16 +18,16 @@ returns-in-Refused g c =
     let e = refused m b t s r.tells r.leaves f c.in-Refused.is in
     record { tells = sym (refused_counts m b t s r.tells r.leaves f (no_outline f b) e refl); writes = sym (ap (λ (o : Outlined). o.buffer) e) }
 
-pub returns-in-err-outline : goal.returns-in-err-outline
-returns-in-err-outline g c =
+pub returns-in_err-outline : goal.returns-in_err-outline
+returns-in_err-outline g c =
     let m = g.A.Body.meaning c.args.body in
     let b = c.args.slots.now in
     let t = c.surveyed-survey.result.1 in
     let s = state c.surveyed-survey.result.0 in
     let r = c.surveyed-survey.ensures in
-    let o = c.in-err-outline.ensures in
-    let e = read_on m b t s r.tells r.leaves c.in-default.not-Refused in
-    let p = err_from_is_err_and c.from-residual.result c.from-residual.ensures.1 in
+    let o = c.in_err-outline.ensures in
+    let e = read_on m b t s r.tells r.leaves c.in_default.not-Refused in
+    let p = err_from_is_err_and c.from_residual.result c.from_residual.ensures.1 in
     record { tells = p.1 ∙ ap Err p.2 ∙ sym (refused_counts m b t s r.tells r.leaves _ (read_outline s b) e (sym o.tells)); writes = o.writes ∙ sym (ap (λ (x : Outlined). x.buffer) e) }
 
 pub returns : goal.returns
@@ -37,6 +37,6 @@ returns g c =
     let t = c.surveyed-survey.result.1 in
     let s = state c.surveyed-survey.result.0 in
     let r = c.surveyed-survey.ensures in
-    let o = c.in-ok-outline.ensures in
-    let e = read_on m b t s r.tells r.leaves c.in-default.not-Refused in
+    let o = c.in_ok-outline.ensures in
+    let e = read_on m b t s r.tells r.leaves c.in_default.not-Refused in
     record { tells = ap (λ (k : Counts). Ok k) c.counts.ensures ∙ sym (read_counted m b t s r.tells r.leaves _ (read_outline s b) e (sym o.tells)); writes = o.writes ∙ sym (ap (λ (x : Outlined). x.buffer) e) }

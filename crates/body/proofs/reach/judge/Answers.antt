@@ -3,5 +3,5 @@ use Rattle.std.proofs.Common.{arith}
 use Rattle.body.proofs.Walks.{first_beyond_low}
 use Rattle.body.proofs.reach.judge.Goals as goal
 
-pub overflow-cast-first-beyond : goal.overflow-cast-first-beyond
-overflow-cast-first-beyond c = omega (arith, first_beyond_low c.args.points.now)
+pub overflow_cast-first_beyond : goal.overflow_cast-first_beyond
+overflow_cast-first_beyond c = omega (arith, first_beyond_low c.args.points.now)

@@ -5,5 +5,5 @@ use Rattle.layers.proofs.answers.join_answer.Goals as goal
 
 pub returns : goal.returns
 returns g c =
-    joined_answers (vector c.args.u) (g.A.Body.meaning c.args.left.now) (g.B.Body.meaning c.args.right.now) c.support.result c.support-2.result c.in-ok-p.p c.in-ok-q.q
-    c.in-ok-p.ensures c.in-ok-q.ensures c.support.ensures c.support-2.ensures c.farther.result c.farther.ensures
+    joined_answers (vector c.args.u) (g.A.Body.meaning c.args.left.now) (g.B.Body.meaning c.args.right.now) c.support.result c.support-2.result c.in_ok-p.p c.in_ok-q.q
+    c.in_ok-p.ensures c.in_ok-q.ensures c.support.ensures c.support-2.ensures c.farther.result c.farther.ensures

@@ -4,5 +4,5 @@ use Rattle.plane.specs.Plane.{size}
 use Rattle.layers.proofs.Spans.{overrun_low}
 use Rattle.layers.proofs.generators.judge_zonotope.Goals as goal
 
-pub overflow-cast-overrun-of : goal.overflow-cast-overrun-of
-overflow-cast-overrun-of c = omega (arith, overrun_low (size c.args.base) c.args.generators.now)
+pub overflow_cast-overrun_of : goal.overflow_cast-overrun_of
+overflow_cast-overrun_of c = omega (arith, overrun_low (size c.args.base) c.args.generators.now)

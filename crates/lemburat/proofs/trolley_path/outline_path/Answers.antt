@@ -10,6 +10,6 @@ pub returns : goal.returns
 returns c =
     let b = c.args.slots.now in
     record {
-      tells = c.outline.ensures.tells ∙ (λ i. counts_of (joined (c.loaded-trolley.ensures i) (c.loaded-trolley-2.ensures i)) b) ∙ path_counted b c.requires;
-      writes = c.outline.ensures.writes ∙ (λ i. (outline_of (joined (c.loaded-trolley.ensures i) (c.loaded-trolley-2.ensures i)) b).buffer) ∙ ap (λ (o : Outlined). o.buffer) (path_outlined b c.requires);
+      tells = c.outline.ensures.tells ∙ (λ i. counts_of (joined (c.loaded_trolley.ensures i) (c.loaded_trolley-2.ensures i)) b) ∙ path_counted b c.requires;
+      writes = c.outline.ensures.writes ∙ (λ i. (outline_of (joined (c.loaded_trolley.ensures i) (c.loaded_trolley-2.ensures i)) b).buffer) ∙ ap (λ (o : Outlined). o.buffer) (path_outlined b c.requires);
     }

@@ -10,8 +10,8 @@ module _ (c : goal.After-times-2) where
   value : to_z w64 (of_z w64 c.times.result) -ℤ to_z w64 (of_z w64 c.times-2.result) ≡ c.args.a *ℤ c.args.b -ℤ c.args.c *ℤ c.args.d
   value = pair_read ◌-ℤ◌ _ _ _ _ (product_read _ _ _ c.ranges.a c.ranges.b c.times.ensures) (product_read _ _ _ c.ranges.c c.ranges.d c.times-2.ensures) (product_fits _ _ c.ranges.a c.ranges.b) (product_fits _ _ c.ranges.c c.ranges.d)
 
-pub overflow-sub-result : goal.overflow-sub-result
-overflow-sub-result c = fits_read _ _ (value c) (fits c)
+pub overflow_sub-result : goal.overflow_sub-result
+overflow_sub-result c = fits_read _ _ (value c) (fits c)
 
 pub returns : goal.returns
 returns c = value_read _ _ (value c) (fits c)

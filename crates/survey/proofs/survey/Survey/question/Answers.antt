@@ -12,8 +12,8 @@ listed g c = omega (arith, open_survey c.args.self.now c.requires (omega arith))
 pub bounds-self-self : goal.bounds-self-self
 bounds-self-self g c = omega (arith, open_survey c.args.self.now c.requires (omega arith))
 
-pub edge-end-requires : goal.edge-end-requires
-edge-end-requires g c = open_survey c.args.self.now c.requires (omega arith)
+pub edge_end-requires : goal.edge_end-requires
+edge_end-requires g c = open_survey c.args.self.now c.requires (omega arith)
 
 pub returns : goal.returns
 returns g c =

@@ -17,5 +17,5 @@ returns g c =
     let s = c.args.self.now in
     let e = room (state s) c.args.i (found_by c.args.corner) c.args.corner.at (omega (arith, length_front s.settled s.count s.corners (omega arith))) in
     let counts : List Found → State = λ fs. record { found = fs; probes = s.probes + 1 } in
-    let more = grown s.settled s.count s.corners c.insert-at.new.items c.args.i c.args.corner (omega arith) c.requires.after c.requires.within c.insert-at.ensures in
+    let more = grown s.settled s.count s.corners c.insert_at.new.items c.args.i c.args.corner (omega arith) c.requires.after c.requires.within c.insert_at.ensures in
     record { held = refl; says = sym (ap (λ (p : Probed). p.says) e); leaves = ap counts more ∙ sym (ap (λ (p : Probed). p.leaves) e) }
