@@ -1,6 +1,6 @@
 -- The walk over the steps of a ring.
 use Rattle.std.proofs.Common.{◌≡◌, ℕ, suc, ◌+◌, ◌-◌, ◌<◌, ◌≤◌, Bool, true, false, ◌&&◌, ◌||◌, eqb, ltb, List, length, Ok, Err, sym, ap, ◌∙◌, add-one, arith}
-use Rattle.std.specs.List.{AllByRecursion as All}
+use Rattle.std.specs.List.{AllByRecursion}
 use Rattle.std.proofs.ByRecursion.{All-weaker}
 use Rattle.std.proofs.lemmas.Bool.{lt-ltb, ltb-false, cond-true, cond-false, cond_both}
 use Rattle.plane.specs.declared.point.Point.{Point}
@@ -49,11 +49,11 @@ single ps e = e ∙ sym (ap (λ (m : ℕ). first_unlawful_from ps m 0) e ∙ con
 
 -- ---- points that are judged sound
 
-near_by : (ps : List Point) (v : Verdict) (r : ℕ) → BoundedBy v ps → Ok r ≡ v → All (Within 1000000) ps
+near_by : (ps : List Point) (v : Verdict) (r : ℕ) → BoundedBy v ps → Ok r ≡ v → AllByRecursion (Within 1000000) ps
 near_by ps (Ok n) r b e = All-weaker (Within n) (Within 1000000) (wider n 1000000 b.0) ps b.1
 near_by ps (Err f) r b e = let z : ◌≡◌ {A = ℕ} 0 1 = cc in absurd (omega arith)
 
-pub sound_near : (most r : ℕ) (ps : List Point) → Ok r ≡ points_verdict most ps → All (Within 1000000) ps
+pub sound_near : (most r : ℕ) (ps : List Point) → Ok r ≡ points_verdict most ps → AllByRecursion (Within 1000000) ps
 sound_near most r ps e = near_by ps (points_verdict most ps) r (points_bounded most ps) e
 
 pub sound_few : (most r : ℕ) (ps : List Point) → Ok r ≡ points_verdict most ps → length ps ≤ most

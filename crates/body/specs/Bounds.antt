@@ -1,7 +1,7 @@
 -- Laws of the bounds that a body's meaning keeps.
 use Rattle.std.specs.Prelude.{ℕ, ◌+◌, ◌<◌, ◌≤◌, List, length, ℤ, ◌+ℤ◌, nat_lt, unsigned_abs}
 use Rattle.std.proofs.Common.{arith}
-use Rattle.std.specs.List.{AllByRecursion as All}
+use Rattle.std.specs.List.{AllByRecursion}
 use Rattle.std.proofs.lemmas.Int.{ints}
 use Rattle.std.proofs.lemmas.Bool.{ltb-false, cond_both}
 use Rattle.plane.specs.declared.point.Point.{Point}
@@ -21,5 +21,5 @@ pub size_within : (p : Point) → Within (size p) p
 size_within p = (omega arith, omega arith)
 
 -- a limited reach keeps the bounds where it bounds some points
-pub limited_bounded : (place n : ℕ) (ps : List Point) → All (Within n) ps → 0 < length ps → BoundedBy (limited place n) ps
+pub limited_bounded : (place n : ℕ) (ps : List Point) → AllByRecursion (Within n) ps → 0 < length ps → BoundedBy (limited place n) ps
 limited_bounded place n ps near some = cond_both (nat_lt 1000000 n) _ _ (λ v. BoundedBy v ps) (λ e. tt) (λ e. (ltb-false 1000000 n e, near, some))

@@ -1,6 +1,6 @@
 -- What a body means, and what it answers.
 use Rattle.std.specs.Prelude.{◌≡◌, ℕ, ◌<◌, ◌≤◌, cond, List, length, Ok, Err, Result, nat_lt, unsigned_abs}
-use Rattle.std.specs.List.{AllByRecursion as All}
+use Rattle.std.specs.List.{AllByRecursion}
 use Rattle.plane.specs.declared.fault.Cause.TheVariants.{BeyondReach}
 use Rattle.plane.specs.declared.fault.Fault.{Fault}
 use Rattle.plane.specs.declared.point.Point.{Point}
@@ -24,7 +24,7 @@ abbrev pub Within : ℕ → Point → Type 0
 Within n p = (unsigned_abs p.x ≤ n) × (unsigned_abs p.y ≤ n)
 
 abbrev pub BoundedBy : Verdict → List Point → Type 0
-BoundedBy (Ok reach) ps = (reach ≤ 1000000) × All (Within reach) ps × (0 < length ps)
+BoundedBy (Ok reach) ps = (reach ≤ 1000000) × AllByRecursion (Within reach) ps × (0 < length ps)
 BoundedBy (Err f) ps = Unit {0}
 
 -- a sound body has points, its reach bounds them, and the reach is bounded too; nothing is asked of a faulty one

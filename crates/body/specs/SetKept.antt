@@ -1,7 +1,7 @@
 -- A list of points keeps the bounds of a body's meaning.
 use Rattle.std.specs.Prelude.{◌≡◌, ℕ, ◌≤◌, Bool, true, false, cond, List, [], ◌∷◌, length, Ok, Err, ◌==◌, ◌≢◌, nat_lt, refl}
 use Rattle.std.proofs.Common.{arith}
-use Rattle.std.specs.List.{AllByRecursion as All}
+use Rattle.std.specs.List.{AllByRecursion}
 use Rattle.std.proofs.lemmas.Bool.{ltb-false, eqb-false}
 use Rattle.plane.specs.declared.fault.Cause.TheVariants.{NoPoints, TooManyPoints, BeyondReach}
 use Rattle.plane.specs.declared.point.Point.{Point}
@@ -10,7 +10,7 @@ use Rattle.body.specs.Meaning.{Within, BoundedBy, Bounded}
 use Rattle.body.specs.Set.{reach, first_beyond, reach_verdict, points_verdict, set_meaning}
 
 -- no point passes a number that the reach does not pass
-all_within : (n : ℕ) (ps : List Point) → reach ps ≤ n → All (Within n) ps
+all_within : (n : ℕ) (ps : List Point) → reach ps ≤ n → AllByRecursion (Within n) ps
 all_within n [] h = tt
 all_within n (p ∷ ps) h = ((omega arith, omega arith), all_within n ps (omega arith))
 

@@ -1,6 +1,6 @@
 // The steps of a ring, and the first that is unlawful.
 ghost use Rattle.std.specs.Prelude.{◌≡◌, ◌<◌, length, pos, int_lt};
-ghost use Rattle.std.specs.List.{AllByRecursion as All};
+ghost use Rattle.std.specs.List.{AllByRecursion};
 ghost use Rattle.plane.specs.Plane.{minus, orientation, next};
 ghost use Rattle.body.specs.Meaning.{Within};
 ghost use Rattle.body.specs.Ring.{previous, unlawful_by, first_unlawful};
@@ -51,7 +51,7 @@ fn turns_left(a: Point, b: Point, c: Point) -> bool
 // Whether step i is unlawful, given whether it rises and whether an earlier one rose.
 fn is_unlawful(corners: &[Point], i: usize, up: bool, risen: bool) -> bool
     requires within { i < length corners.now }
-    requires near { All (Within 1000000) corners.now }
+    requires near { AllByRecursion (Within 1000000) corners.now }
     ensures { result ≡ unlawful_by corners.now i up risen }
 {
     let n = corners.len();
@@ -63,7 +63,7 @@ fn is_unlawful(corners: &[Point], i: usize, up: bool, risen: bool) -> bool
 
 // The number of the first unlawful step, or of corners where there is none.
 pub(crate) fn first_unlawful(corners: &[Point]) -> usize
-    requires { All (Within 1000000) corners.now }
+    requires { AllByRecursion (Within 1000000) corners.now }
     ensures { result ≡ first_unlawful corners.now }
 {
     let n = corners.len();

@@ -1,6 +1,6 @@
 -- The answer of a sound layer, from the answers of its parts.
 use Rattle.std.proofs.Common.{◌≡◌, ℕ, zero, suc, ◌<◌, max, true, cond, List, [], ◌∷◌, ◌++◌, map, length, get_or, is_ok, Ok, Err, Result, sym, refl, ap, subst, arith}
-use Rattle.std.specs.List.{ContainsAt as Has}
+use Rattle.std.specs.List.{ContainsAt}
 use Rattle.std.proofs.ByRecursion.{all-has, has_append_left, has_append_right}
 use Rattle.std.proofs.lemmas.Bool.{false≢true}
 use Rattle.plane.specs.declared.fault.Fault.{Fault}
@@ -59,11 +59,11 @@ turned_answers t w u m r p q law e a f =
 
 -- ---- a layer over two parts
 
-has_sums : (ps qs : List Point) (p q : Point) (k : ℕ) → k < length ps → ((d : Point) → get_or ps k d ≡ p) → Has qs q → Has (sums ps qs) (plus p q)
+has_sums : (ps qs : List Point) (p q : Point) (k : ℕ) → k < length ps → ((d : Point) → get_or ps k d ≡ p) → ContainsAt qs q → ContainsAt (sums ps qs) (plus p q)
 has_sums [] qs p q k l e h = absurd (omega arith)
 has_sums (x ∷ ps) qs p q zero l e h =
     has_append_left (map (λ r. plus x r) qs) (sums ps qs) (plus p q)
-    (subst (λ (z : Point). Has (map (λ r. plus x r) qs) (plus z q)) (e x) (has_map (λ r. plus x r) qs q h))
+    (subst (λ (z : Point). ContainsAt (map (λ r. plus x r) qs) (plus z q)) (e x) (has_map (λ r. plus x r) qs q h))
 has_sums (x ∷ ps) qs p q (suc k) l e h = has_append_right (map (λ r. plus x r) qs) (sums ps qs) (plus p q) (has_sums ps qs p q k (omega arith) e h)
 
 sums_supports : (u : Point) (ps qs : List Point) (p q : Point) → Supports u ps p → Supports u qs q → Supports u (sums ps qs) (plus p q)

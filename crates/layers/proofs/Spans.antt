@@ -1,6 +1,6 @@
 -- The walks over the generators of a zonotope, and its support point.
 use Rattle.std.proofs.Common.{◌≡◌, ℕ, suc, ◌+◌, ◌<◌, ◌≤◌, Bool, true, false, cond, ltb, List, [], ◌∷◌, ◌++◌, length, get_or, drop, sym, refl, ap, ◌∙◌, subst, arith}
-use Rattle.std.specs.List.{ContainsAt as Has, AllByRecursion as All}
+use Rattle.std.specs.List.{ContainsAt, AllByRecursion}
 use Rattle.std.proofs.ByRecursion.{All-append, has_append_left, has_append_right, has_push}
 use Rattle.std.proofs.lemmas.List.{at_drop_more, at_drop_all}
 use Rattle.std.proofs.lemmas.Int.{ints}
@@ -65,18 +65,18 @@ module _ (u : Point) where
   chosen g a b h true e = (subst (NotBeyond u (plus a g)) (plus_origin b) (not_beyond_plus u a g b origin h (beyond_yes u origin g e)), not_beyond_plus u a g b g h (not_beyond_itself u g))
   chosen g a b h false e = (h, subst (λ (z : Point). NotBeyond u z (plus b g)) (plus_origin a) (not_beyond_plus u a origin b g h (beyond_no u origin g e)))
 
-  picked_greatest : (gs : List Point) (a b : Point) → NotBeyond u a b → All (NotBeyond u (picked u a gs)) (choices b gs)
+  picked_greatest : (gs : List Point) (a b : Point) → NotBeyond u a b → AllByRecursion (NotBeyond u (picked u a gs)) (choices b gs)
   picked_greatest [] a b h = (h, tt)
   picked_greatest (g ∷ gs) a b h =
       let c = cond (beyond u origin g) (plus a g) a in
       let k = chosen g a b h (beyond u origin g) refl in
       All-append (NotBeyond u (picked u c gs)) (choices b gs) (choices (plus b g) gs) (picked_greatest gs c b k.0) (picked_greatest gs c (plus b g) k.1)
 
-  picked_listed : (gs : List Point) (b : Point) → Has (choices b gs) (picked u b gs)
+  picked_listed : (gs : List Point) (b : Point) → ContainsAt (choices b gs) (picked u b gs)
   picked_listed [] b = has_push [] b
   picked_listed (g ∷ gs) b = go (beyond u origin g) (picked_listed gs (plus b g)) (picked_listed gs b)
     where
-      go : (t : Bool) → Has (choices (plus b g) gs) (picked u (plus b g) gs) → Has (choices b gs) (picked u b gs) → Has (choices b gs ++ choices (plus b g) gs) (picked u (cond t (plus b g) b) gs)
+      go : (t : Bool) → ContainsAt (choices (plus b g) gs) (picked u (plus b g) gs) → ContainsAt (choices b gs) (picked u b gs) → ContainsAt (choices b gs ++ choices (plus b g) gs) (picked u (cond t (plus b g) b) gs)
       go true h k = has_append_right (choices b gs) (choices (plus b g) gs) _ h
       go false h k = has_append_left (choices b gs) (choices (plus b g) gs) _ k
 

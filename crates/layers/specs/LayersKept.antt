@@ -1,7 +1,7 @@
 -- A layer keeps the bounds of a body's meaning where its parts do.
 use Rattle.std.specs.Prelude.{ℕ, ◌+◌, ◌<◌, ◌≤◌, max, List, [], ◌∷◌, ◌++◌, map, length, ℤ, neg_ℤ, Ok, Err, unsigned_abs}
 use Rattle.std.proofs.Common.{arith}
-use Rattle.std.specs.List.{AllByRecursion as All}
+use Rattle.std.specs.List.{AllByRecursion}
 use Rattle.std.proofs.ByRecursion.{All-weaker, All-map, All-append}
 use Rattle.std.proofs.lemmas.Int.{ints}
 use Rattle.plane.specs.declared.point.Point.{Point}
@@ -20,7 +20,7 @@ some_map t [] h = h
 some_map t (p ∷ ps) h = omega arith
 
 -- t takes what is within m to what is within n
-map_within : (t : Point → Point) (m n : ℕ) (ps : List Point) → ((p : Point) → Within m p → Within n (t p)) → All (Within m) ps → All (Within n) (map t ps)
+map_within : (t : Point → Point) (m n : ℕ) (ps : List Point) → ((p : Point) → Within m p → Within n (t p)) → AllByRecursion (Within m) ps → AllByRecursion (Within n) (map t ps)
 map_within t m n ps law h = All-map (Within n) t ps (All-weaker (Within m) (λ p. Within n (t p)) law ps h)
 
 pub moved_bounded : (v : Point) (m : Meaning) → Bounded m → Bounded (moved v m)
@@ -45,7 +45,7 @@ pub quartered_bounded : (m : Meaning) → Bounded m → Bounded (quartered m)
 quartered_bounded m b = turned_bounded perp (λ n p w. (abs_neg p.y n w.1, w.0)) m b
 
 -- what holds of each sum
-pub all_sums : (P Q R : Point → Type 0) (ps qs : List Point) → ((p q : Point) → P p → Q q → R (plus p q)) → All P ps → All Q qs → All R (sums ps qs)
+pub all_sums : (P Q R : Point → Type 0) (ps qs : List Point) → ((p q : Point) → P p → Q q → R (plus p q)) → AllByRecursion P ps → AllByRecursion Q qs → AllByRecursion R (sums ps qs)
 all_sums P Q R [] qs law h k = tt
 all_sums P Q R (p ∷ ps) qs law h k =
     All-append R (map (λ q. plus p q) qs) (sums ps qs)

@@ -1,7 +1,7 @@
 -- A zonotope keeps the bounds of a body's meaning: no choice of generators passes its span.
 use Rattle.std.specs.Prelude.{ℕ, ◌+◌, ◌<◌, ◌≤◌, List, [], ◌∷◌, length, nat_lt}
 use Rattle.std.proofs.Common.{arith, length-append}
-use Rattle.std.specs.List.{AllByRecursion as All}
+use Rattle.std.specs.List.{AllByRecursion}
 use Rattle.std.proofs.ByRecursion.{All-append}
 use Rattle.std.proofs.lemmas.Bool.{cond_both}
 use Rattle.plane.specs.declared.point.Point.{Point}
@@ -15,7 +15,7 @@ span_more r [] = omega arith
 span_more r (g ∷ gs) = omega (arith, span_more (r + size g) gs)
 
 -- b is within r, and within r plus the size of g too
-choices_within : (n r : ℕ) (b : Point) (gs : List Point) → Within r b → span r gs ≤ n → All (Within n) (choices b gs)
+choices_within : (n r : ℕ) (b : Point) (gs : List Point) → Within r b → span r gs ≤ n → AllByRecursion (Within n) (choices b gs)
 choices_within n r b [] w h = (wider r n h b w, tt)
 choices_within n r b (g ∷ gs) w h =
     All-append (Within n) (choices b gs) (choices (plus b g) gs)

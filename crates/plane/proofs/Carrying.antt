@@ -1,6 +1,6 @@
 -- How the order that support points go by is carried on: by adding, by turning points and direction alike, from a list to its image.
 use Rattle.std.proofs.Common.{◌≡◌, ℕ, zero, suc, ◌<◌, Bool, true, false, cond, ◌⊎◌, List, [], ◌∷◌, ◌++◌, map, length, get_or, ℤ, ◌+ℤ◌, ◌≤ℤ◌, ◌<ℤ◌, sym, refl, ap, subst, inl, inr, arith}
-use Rattle.std.specs.List.{ContainsAt as Has}
+use Rattle.std.specs.List.{ContainsAt}
 use Rattle.std.proofs.ByRecursion.{All-map, All-weaker, All-append, has_append_left, has_append_right}
 use Rattle.plane.specs.declared.point.Point.{Point}
 use Rattle.plane.specs.Plane.{plus, negate, dot, perp}
@@ -29,7 +29,7 @@ not_beyond_plus u p q a b h k =
 
 -- ---- the image of a list
 
-pub has_map : {X Y : Type 0} (f : X → Y) (xs : List X) (x : X) → Has xs x → Has (map f xs) (f x)
+pub has_map : {X Y : Type 0} (f : X → Y) (xs : List X) (x : X) → ContainsAt xs x → ContainsAt (map f xs) (f x)
 has_map {X = X} {Y = Y} f xs x (k, l, e) = (k, (go xs k l e).0, (go xs k l e).1)
   where
     go : (ys : List X) (k : ℕ) → k < length ys → ((d : X) → get_or ys k d ≡ x) → (k < length (map f ys)) × ((d : Y) → get_or (map f ys) k d ≡ f x)

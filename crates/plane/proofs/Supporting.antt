@@ -1,7 +1,7 @@
 -- The support point that is worked out is one, and there is no other.
 use Rattle.std.proofs.Common.{◌≡◌, zero, suc, ◌+◌, ◌<◌, Bool, true, false, cond, not, ◌&&◌, ◌||◌, ◌⊎◌, List, [], ◌∷◌, length, ℤ, pos, nat_abs, ◌≤ℤ◌, ◌<ℤ◌, refl, subst, inl, inr, arith}
 use lib.Signed.{lt_z}
-use Rattle.std.specs.List.{ContainsAt as Has}
+use Rattle.std.specs.List.{ContainsAt}
 use Rattle.std.proofs.ByRecursion.{all-has, has_append_right}
 use Rattle.std.proofs.lemmas.Int.{ints}
 use Rattle.plane.specs.declared.point.Point.{Point}
@@ -50,7 +50,7 @@ beyond_no u p q h = test_no (dot u p) (dot u q) (dot (perp u) p) (dot (perp u) q
 
 -- ---- the point that is worked out
 
-has_past : {X : Type 0} (p q : X) (qs : List X) (r : X) → Has (p ∷ qs) r → Has (p ∷ q ∷ qs) r
+has_past : {X : Type 0} (p q : X) (qs : List X) (r : X) → ContainsAt (p ∷ qs) r → ContainsAt (p ∷ q ∷ qs) r
 has_past p q qs r (zero, l, e) = (0, omega arith, e)
 has_past p q qs r (suc k, l, e) = (suc (suc k), omega arith, e)
 
@@ -79,7 +79,7 @@ support_unique u ps p q n s t =
     let e = level (dot u q) (dot u p) (dot (perp u) q) (dot (perp u) p) (all-has (NotBeyond u p) ps q s.greatest t.listed) (all-has (NotBeyond u q) ps p t.greatest s.listed) in
     apart u p q n e.0 e.1
 
-some_listed : (ps : List Point) (p : Point) → Has ps p → 0 < length ps
+some_listed : (ps : List Point) (p : Point) → ContainsAt ps p → 0 < length ps
 some_listed ps p (k, l, e) = omega arith
 
 pub support_is : (u : Point) (ps : List Point) (p : Point) → ¬ (u ≡ origin) → Supports u ps p → p ≡ support u ps

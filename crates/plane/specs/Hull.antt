@@ -1,7 +1,7 @@
 -- The hull of a list of points, by whole weights, and the corners of a list.
 use Rattle.std.specs.Prelude.{◌≡◌, ℕ, ◌+◌, ◌<◌, not, List, [], ◌∷◌, length, ℤ, pos, ◌*ℤ◌, filter}
 use Rattle.std.proofs.Common.{lit<}
-use Rattle.std.specs.List.{ContainsAt as Has}
+use Rattle.std.specs.List.{ContainsAt}
 use Rattle.plane.specs.declared.point.Point.{Point}
 use Rattle.plane.specs.Plane.{point, origin, plus, times, same}
 
@@ -46,5 +46,5 @@ others p ps = filter (λ q. not (same q p)) ps
 
 -- a listed point that the hull of the rest leaves out
 pub record Corner (ps : List Point) (p : Point) : Type 0 where
-  pub listed : Has ps p
+  pub listed : ContainsAt ps p
   pub outside : InHull (others p ps) (whole p) → ⊥

@@ -1,6 +1,6 @@
 -- The support point of a list in a direction: what it is, and how it is worked out.
 use Rattle.std.specs.Prelude.{◌≡◌, Bool, cond, not, ◌&&◌, ◌||◌, ◌⊎◌, List, [], ◌∷◌, ◌≤ℤ◌, ◌<ℤ◌, int_lt}
-use Rattle.std.specs.List.{ContainsAt as Has, AllByRecursion as All}
+use Rattle.std.specs.List.{ContainsAt, AllByRecursion}
 use Rattle.plane.specs.declared.point.Point.{Point}
 use Rattle.plane.specs.Plane.{origin, dot, perp}
 
@@ -10,8 +10,8 @@ NotBeyond u p q = (dot u q <ℤ dot u p) ⊎ ((dot u q ≡ dot u p) × (dot (per
 
 -- p is listed, and nothing listed lies beyond it
 pub record Supports (u : Point) (ps : List Point) (p : Point) : Type 0 where
-  pub listed : Has ps p
-  pub greatest : All (NotBeyond u p) ps
+  pub listed : ContainsAt ps p
+  pub greatest : AllByRecursion (NotBeyond u p) ps
 
 -- whether q lies beyond p: u·q is larger, or is no smaller and perp(u)·q is larger
 abbrev pub beyond : Point → Point → Point → Bool

@@ -11,7 +11,7 @@ use survey::survey::Survey;
 const ORIGIN: Point = Point { x: 0, y: 0 };
 
 // A faulty set gives its fault to both questions, to a probe and to a run, and the survey stays empty.
-fn refuses(rt: &impl Abort, points: &[Point], cause: Cause, place: u32) {
+fn refuses(rt: &impl Abort, points: &[Point], cause: Cause, place: u32) -> Result<(), Fail> {
     let set = Set::new(points);
     let fault = Fault::new(cause, place);
     assert_eq!(rt; set.verdict(), Err(fault));
@@ -25,12 +25,13 @@ fn refuses(rt: &impl Abort, points: &[Point], cause: Cause, place: u32) {
         probes: 0,
     };
     assert_eq!(rt; survey.counts(), counts);
+    Ok(())
 }
 
 #[test]
-fn faulty_sets(rt: HostRuntime) {
-    refuses(&rt, &[], Cause::NoPoints, 0);
-    refuses(&rt, &[ORIGIN; 1025], Cause::TooManyPoints, 1024);
+fn faulty_sets(rt: HostRuntime) -> Result<(), Fail> {
+    refuses(&rt, &[], Cause::NoPoints, 0)?;
+    refuses(&rt, &[ORIGIN; 1025], Cause::TooManyPoints, 1024)?;
     refuses(
         &rt,
         &[
@@ -43,12 +44,12 @@ fn faulty_sets(rt: HostRuntime) {
         ],
         Cause::BeyondReach,
         1,
-    );
-    refuses(&rt, &[Point { x: 7, y: i32::MIN }], Cause::BeyondReach, 0);
+    )?;
+    refuses(&rt, &[Point { x: 7, y: i32::MIN }], Cause::BeyondReach, 0)?;
     let mut many = [ORIGIN; 1025];
     many[2] = Point { x: 2_000_000, y: 0 };
     // the lower cause comes first
-    refuses(&rt, &many, Cause::TooManyPoints, 1024);
+    refuses(&rt, &many, Cause::TooManyPoints, 1024)
 }
 
 #[test]

@@ -19,9 +19,24 @@ fn unlawful(rt: &impl Abort, corners: &[Point], step: u32, why: &str) {
 #[test]
 fn unlawful_steps(rt: HostRuntime) {
     unlawful(&rt, &points![0, 0; 2, 0; 2, 2], 2, "the last step falls");
-    unlawful(&rt, &points![0, 0; 2, 0], 1, "of two corners only the rise counts");
-    unlawful(&rt, &points![5, 5; 5, 5], 1, "a last step that ends where it starts");
-    unlawful(&rt, &points![2, 2; 1, 1; 0, 0; 2, 0], 1, "no turn at (1, 1)");
+    unlawful(
+        &rt,
+        &points![0, 0; 2, 0],
+        1,
+        "of two corners only the rise counts",
+    );
+    unlawful(
+        &rt,
+        &points![5, 5; 5, 5],
+        1,
+        "a last step that ends where it starts",
+    );
+    unlawful(
+        &rt,
+        &points![2, 2; 1, 1; 0, 0; 2, 0],
+        1,
+        "no turn at (1, 1)",
+    );
     unlawful(&rt, &points![2, 2; 2, 0; 0, 0], 0, "clockwise");
     let twice = points![2, 2; 0, 2; 0, 0; 2, 0; 2, 2; 0, 2; 0, 0; 2, 0];
     unlawful(&rt, &twice, 4, "twice round");
