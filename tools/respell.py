@@ -13,6 +13,9 @@ USE = re.compile(r"^(?:ghost )?use ((?:Rattle\.std|lib|borrow|mathlib|native|Pri
 # where both sides of the dash are names, the dash stays
 KEPT = {"negℤ-*ℤ": "neg_ℤ-*ℤ", "*ℤ-negℤ": "*ℤ-neg_ℤ", "*ℤ-neg_ℤ": "*ℤ-neg_ℤ", "neg_ℤ-*ℤ": "neg_ℤ-*ℤ", "+ℤ-*ℤ": "+ℤ-*ℤ", "*ℤ-+ℤ": "*ℤ-+ℤ", "one-*ℤ": "one-*ℤ", "square-size>0": "square_size>0"}
 
+# names in lower camel case, each for itself
+CAMEL = {"evM": "ev_mono", "evP": "ev_poly"}
+
 
 def is_name(token):
     """Holds for a name with a dash inside, not for an arrow, an operator or a comment's sign."""
@@ -69,6 +72,8 @@ def main():
     for path in lemmas + answers:
         text = open(path, encoding="utf-8").read()
         new = respell(text, own - library(text))
+        for name, turned in CAMEL.items():
+            new = re.sub(r"(?<![\w'-])%s(?![\w'-])" % name, turned, new)
         if new != text:
             open(path, "w", encoding="utf-8").write(new)
     for path in sources:

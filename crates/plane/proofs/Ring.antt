@@ -88,33 +88,33 @@ norm (a ⊗ b) = mul (norm a) (norm b)
 norm (⊝ a) = minus (norm a)
 
 -- ---- what they mean
-abbrev evM : List ℤ → List ℕ → ℤ
-evM ρ [] = pos 1
-evM ρ (i ∷ m) = at ρ i *ℤ evM ρ m
+abbrev ev_mono : List ℤ → List ℕ → ℤ
+ev_mono ρ [] = pos 1
+ev_mono ρ (i ∷ m) = at ρ i *ℤ ev_mono ρ m
 
-abbrev evP : List ℤ → Poly → ℤ
-evP ρ nil = pos 0
-evP ρ (term c m p) = c *ℤ evM ρ m +ℤ evP ρ p
+abbrev ev_poly : List ℤ → Poly → ℤ
+ev_poly ρ nil = pos 0
+ev_poly ρ (term c m p) = c *ℤ ev_mono ρ m +ℤ ev_poly ρ p
 
 abbrev Same {ℓ} : {A : Type ℓ} → Ordering → A → A → Type ℓ
 Same Ordering.lt x y = Unit
 Same Ordering.eq x y = x ≡ y
 Same Ordering.gt x y = Unit
 
-put_sound : (ρ : List ℤ) (x : ℕ) (xs : List ℕ) (rest : List ℕ → List ℕ) → ((ys : List ℕ) → evM ρ (rest ys) ≡ evM ρ xs *ℤ evM ρ ys) → (ys : List ℕ) → evM ρ (put x xs rest ys) ≡ at ρ x *ℤ evM ρ xs *ℤ evM ρ ys
-put_sound ρ x xs rest h [] = sym (*ℤ_one (at ρ x *ℤ evM ρ xs))
+put_sound : (ρ : List ℤ) (x : ℕ) (xs : List ℕ) (rest : List ℕ → List ℕ) → ((ys : List ℕ) → ev_mono ρ (rest ys) ≡ ev_mono ρ xs *ℤ ev_mono ρ ys) → (ys : List ℕ) → ev_mono ρ (put x xs rest ys) ≡ at ρ x *ℤ ev_mono ρ xs *ℤ ev_mono ρ ys
+put_sound ρ x xs rest h [] = sym (*ℤ_one (at ρ x *ℤ ev_mono ρ xs))
 put_sound ρ x xs rest h (y ∷ ys) = go (put_sound ρ x xs rest h ys) (compare y x)
   where
-    first : evM ρ (x ∷ rest (y ∷ ys)) ≡ at ρ x *ℤ evM ρ xs *ℤ evM ρ (y ∷ ys)
-    first = ap (λ (t : ℤ). at ρ x *ℤ t) (h (y ∷ ys)) ∙ sym (*ℤ_assoc (at ρ x) (evM ρ xs) (evM ρ (y ∷ ys)))
+    first : ev_mono ρ (x ∷ rest (y ∷ ys)) ≡ at ρ x *ℤ ev_mono ρ xs *ℤ ev_mono ρ (y ∷ ys)
+    first = ap (λ (t : ℤ). at ρ x *ℤ t) (h (y ∷ ys)) ∙ sym (*ℤ_assoc (at ρ x) (ev_mono ρ xs) (ev_mono ρ (y ∷ ys)))
 
-    go : evM ρ (put x xs rest ys) ≡ at ρ x *ℤ evM ρ xs *ℤ evM ρ ys → (o : Ordering) → evM ρ (elim o [ Ordering.lt ↦ y ∷ put x xs rest ys | Ordering.eq ↦ x ∷ rest (y ∷ ys) | Ordering.gt ↦ x ∷ rest (y ∷ ys) ]) ≡ at ρ x *ℤ evM ρ xs *ℤ evM ρ (y ∷ ys)
-    go e Ordering.lt = ap (λ (t : ℤ). at ρ y *ℤ t) e ∙ *ℤ_left_comm (at ρ y) (at ρ x *ℤ evM ρ xs) (evM ρ ys)
+    go : ev_mono ρ (put x xs rest ys) ≡ at ρ x *ℤ ev_mono ρ xs *ℤ ev_mono ρ ys → (o : Ordering) → ev_mono ρ (elim o [ Ordering.lt ↦ y ∷ put x xs rest ys | Ordering.eq ↦ x ∷ rest (y ∷ ys) | Ordering.gt ↦ x ∷ rest (y ∷ ys) ]) ≡ at ρ x *ℤ ev_mono ρ xs *ℤ ev_mono ρ (y ∷ ys)
+    go e Ordering.lt = ap (λ (t : ℤ). at ρ y *ℤ t) e ∙ *ℤ_left_comm (at ρ y) (at ρ x *ℤ ev_mono ρ xs) (ev_mono ρ ys)
     go e Ordering.eq = first
     go e Ordering.gt = first
 
-join_sound : (ρ : List ℤ) (xs ys : List ℕ) → evM ρ (join xs ys) ≡ evM ρ xs *ℤ evM ρ ys
-join_sound ρ [] ys = sym (one-*ℤ (evM ρ ys))
+join_sound : (ρ : List ℤ) (xs ys : List ℕ) → ev_mono ρ (join xs ys) ≡ ev_mono ρ xs *ℤ ev_mono ρ ys
+join_sound ρ [] ys = sym (one-*ℤ (ev_mono ρ ys))
 join_sound ρ (x ∷ xs) ys = put_sound ρ x xs (join xs) (join_sound ρ xs) ys
 
 -- two products that compare as equal are equal
@@ -139,8 +139,8 @@ order_same (x ∷ xs) (y ∷ ys) = go (order_same xs ys) (compare x y) (compare_
     go s Ordering.eq e = deeper (order xs ys) e s
     go s Ordering.gt e = tt
 
-keep_sound : (ρ : List ℤ) (c : ℤ) (m : List ℕ) (p : Poly) → evP ρ (keep c m p) ≡ c *ℤ evM ρ m +ℤ evP ρ p
-keep_sound ρ (pos zero) m p = sym (ap (λ (t : ℤ). t +ℤ evP ρ p) (zero-*ℤ (evM ρ m)) ∙ +ℤ_idl (evP ρ p))
+keep_sound : (ρ : List ℤ) (c : ℤ) (m : List ℕ) (p : Poly) → ev_poly ρ (keep c m p) ≡ c *ℤ ev_mono ρ m +ℤ ev_poly ρ p
+keep_sound ρ (pos zero) m p = sym (ap (λ (t : ℤ). t +ℤ ev_poly ρ p) (zero-*ℤ (ev_mono ρ m)) ∙ +ℤ_idl (ev_poly ρ p))
 keep_sound ρ (pos (suc n)) m p = refl
 keep_sound ρ (negsuc n) m p = refl
 
@@ -150,35 +150,35 @@ keep_sound ρ (negsuc n) m p = refl
 swap4 : (a b c d : ℤ) → (a +ℤ b) +ℤ (c +ℤ d) ≡ (a +ℤ c) +ℤ (b +ℤ d)
 swap4 a b c d = omega (arith, ints)
 
-into_sound : (ρ : List ℤ) (c : ℤ) (m : List ℕ) (p : Poly) (rest : Poly → Poly) → ((q : Poly) → evP ρ (rest q) ≡ evP ρ p +ℤ evP ρ q) → (q : Poly) → evP ρ (into c m p rest q) ≡ c *ℤ evM ρ m +ℤ evP ρ p +ℤ evP ρ q
-into_sound ρ c m p rest h nil = sym (+ℤ_idr (c *ℤ evM ρ m +ℤ evP ρ p))
+into_sound : (ρ : List ℤ) (c : ℤ) (m : List ℕ) (p : Poly) (rest : Poly → Poly) → ((q : Poly) → ev_poly ρ (rest q) ≡ ev_poly ρ p +ℤ ev_poly ρ q) → (q : Poly) → ev_poly ρ (into c m p rest q) ≡ c *ℤ ev_mono ρ m +ℤ ev_poly ρ p +ℤ ev_poly ρ q
+into_sound ρ c m p rest h nil = sym (+ℤ_idr (c *ℤ ev_mono ρ m +ℤ ev_poly ρ p))
 into_sound ρ c m p rest h (term d n q) = go (into_sound ρ c m p rest h q) (order m n) (order_same m n)
   where
-    go : evP ρ (into c m p rest q) ≡ c *ℤ evM ρ m +ℤ evP ρ p +ℤ evP ρ q → (o : Ordering) → Same o m n → evP ρ (elim o [ Ordering.lt ↦ term c m (rest (term d n q)) | Ordering.eq ↦ keep (c +ℤ d) m (rest q) | Ordering.gt ↦ term d n (into c m p rest q) ]) ≡ c *ℤ evM ρ m +ℤ evP ρ p +ℤ evP ρ (term d n q)
-    go e Ordering.lt s = ap (λ (t : ℤ). c *ℤ evM ρ m +ℤ t) (h (term d n q)) ∙ sym (+ℤ_assoc (c *ℤ evM ρ m) (evP ρ p) (evP ρ (term d n q)))
-    go e Ordering.eq s = keep_sound ρ (c +ℤ d) m (rest q) ∙ ap₂ ◌+ℤ◌ (+ℤ-*ℤ c d (evM ρ m)) (h q) ∙ swap4 (c *ℤ evM ρ m) (d *ℤ evM ρ m) (evP ρ p) (evP ρ q) ∙ ap (λ (t : List ℕ). c *ℤ evM ρ m +ℤ evP ρ p +ℤ (d *ℤ evM ρ t +ℤ evP ρ q)) s
-    go e Ordering.gt s = ap (λ (t : ℤ). d *ℤ evM ρ n +ℤ t) e ∙ +ℤ_left_comm (d *ℤ evM ρ n) (c *ℤ evM ρ m +ℤ evP ρ p) (evP ρ q)
+    go : ev_poly ρ (into c m p rest q) ≡ c *ℤ ev_mono ρ m +ℤ ev_poly ρ p +ℤ ev_poly ρ q → (o : Ordering) → Same o m n → ev_poly ρ (elim o [ Ordering.lt ↦ term c m (rest (term d n q)) | Ordering.eq ↦ keep (c +ℤ d) m (rest q) | Ordering.gt ↦ term d n (into c m p rest q) ]) ≡ c *ℤ ev_mono ρ m +ℤ ev_poly ρ p +ℤ ev_poly ρ (term d n q)
+    go e Ordering.lt s = ap (λ (t : ℤ). c *ℤ ev_mono ρ m +ℤ t) (h (term d n q)) ∙ sym (+ℤ_assoc (c *ℤ ev_mono ρ m) (ev_poly ρ p) (ev_poly ρ (term d n q)))
+    go e Ordering.eq s = keep_sound ρ (c +ℤ d) m (rest q) ∙ ap₂ ◌+ℤ◌ (+ℤ-*ℤ c d (ev_mono ρ m)) (h q) ∙ swap4 (c *ℤ ev_mono ρ m) (d *ℤ ev_mono ρ m) (ev_poly ρ p) (ev_poly ρ q) ∙ ap (λ (t : List ℕ). c *ℤ ev_mono ρ m +ℤ ev_poly ρ p +ℤ (d *ℤ ev_mono ρ t +ℤ ev_poly ρ q)) s
+    go e Ordering.gt s = ap (λ (t : ℤ). d *ℤ ev_mono ρ n +ℤ t) e ∙ +ℤ_left_comm (d *ℤ ev_mono ρ n) (c *ℤ ev_mono ρ m +ℤ ev_poly ρ p) (ev_poly ρ q)
 
-add_sound : (ρ : List ℤ) (p q : Poly) → evP ρ (add p q) ≡ evP ρ p +ℤ evP ρ q
-add_sound ρ nil q = sym (+ℤ_idl (evP ρ q))
+add_sound : (ρ : List ℤ) (p q : Poly) → ev_poly ρ (add p q) ≡ ev_poly ρ p +ℤ ev_poly ρ q
+add_sound ρ nil q = sym (+ℤ_idl (ev_poly ρ q))
 add_sound ρ (term c m p) q = into_sound ρ c m p (add p) (add_sound ρ p) q
 
 regroup : (c d m n : ℤ) → (c *ℤ d) *ℤ (m *ℤ n) ≡ (c *ℤ m) *ℤ (d *ℤ n)
 regroup c d m n = *ℤ_assoc c d (m *ℤ n) ∙ ap (λ (t : ℤ). c *ℤ t) (*ℤ_left_comm d m n) ∙ sym (*ℤ_assoc c m (d *ℤ n))
 
-scale_sound : (ρ : List ℤ) (c : ℤ) (m : List ℕ) (q : Poly) → evP ρ (scale c m q) ≡ c *ℤ evM ρ m *ℤ evP ρ q
-scale_sound ρ c m nil = sym (*ℤ-zero (c *ℤ evM ρ m))
-scale_sound ρ c m (term d n q) = ap₂ ◌+ℤ◌ (ap (λ (t : ℤ). c *ℤ d *ℤ t) (join_sound ρ m n) ∙ regroup c d (evM ρ m) (evM ρ n)) (scale_sound ρ c m q) ∙ sym (*ℤ-+ℤ (c *ℤ evM ρ m) (d *ℤ evM ρ n) (evP ρ q))
+scale_sound : (ρ : List ℤ) (c : ℤ) (m : List ℕ) (q : Poly) → ev_poly ρ (scale c m q) ≡ c *ℤ ev_mono ρ m *ℤ ev_poly ρ q
+scale_sound ρ c m nil = sym (*ℤ-zero (c *ℤ ev_mono ρ m))
+scale_sound ρ c m (term d n q) = ap₂ ◌+ℤ◌ (ap (λ (t : ℤ). c *ℤ d *ℤ t) (join_sound ρ m n) ∙ regroup c d (ev_mono ρ m) (ev_mono ρ n)) (scale_sound ρ c m q) ∙ sym (*ℤ-+ℤ (c *ℤ ev_mono ρ m) (d *ℤ ev_mono ρ n) (ev_poly ρ q))
 
-mul_sound : (ρ : List ℤ) (p q : Poly) → evP ρ (mul p q) ≡ evP ρ p *ℤ evP ρ q
-mul_sound ρ nil q = sym (zero-*ℤ (evP ρ q))
-mul_sound ρ (term c m p) q = add_sound ρ (scale c m q) (mul p q) ∙ ap₂ ◌+ℤ◌ (scale_sound ρ c m q) (mul_sound ρ p q) ∙ sym (+ℤ-*ℤ (c *ℤ evM ρ m) (evP ρ p) (evP ρ q))
+mul_sound : (ρ : List ℤ) (p q : Poly) → ev_poly ρ (mul p q) ≡ ev_poly ρ p *ℤ ev_poly ρ q
+mul_sound ρ nil q = sym (zero-*ℤ (ev_poly ρ q))
+mul_sound ρ (term c m p) q = add_sound ρ (scale c m q) (mul p q) ∙ ap₂ ◌+ℤ◌ (scale_sound ρ c m q) (mul_sound ρ p q) ∙ sym (+ℤ-*ℤ (c *ℤ ev_mono ρ m) (ev_poly ρ p) (ev_poly ρ q))
 
-minus_sound : (ρ : List ℤ) (p : Poly) → evP ρ (minus p) ≡ neg_ℤ (evP ρ p)
+minus_sound : (ρ : List ℤ) (p : Poly) → ev_poly ρ (minus p) ≡ neg_ℤ (ev_poly ρ p)
 minus_sound ρ nil = refl
-minus_sound ρ (term c m p) = ap₂ ◌+ℤ◌ (neg_ℤ-*ℤ c (evM ρ m)) (minus_sound ρ p) ∙ sym (neg_ℤ-+ℤ (c *ℤ evM ρ m) (evP ρ p))
+minus_sound ρ (term c m p) = ap₂ ◌+ℤ◌ (neg_ℤ-*ℤ c (ev_mono ρ m)) (minus_sound ρ p) ∙ sym (neg_ℤ-+ℤ (c *ℤ ev_mono ρ m) (ev_poly ρ p))
 
-norm_sound : (ρ : List ℤ) (e : Ex) → evP ρ (norm e) ≡ den e ρ
+norm_sound : (ρ : List ℤ) (e : Ex) → ev_poly ρ (norm e) ≡ den e ρ
 norm_sound ρ (v i) = +ℤ_idr (pos 1 *ℤ (at ρ i *ℤ pos 1)) ∙ one-*ℤ (at ρ i *ℤ pos 1) ∙ *ℤ_one (at ρ i)
 norm_sound ρ (k z) = keep_sound ρ z [] nil ∙ +ℤ_idr (z *ℤ pos 1) ∙ *ℤ_one z
 norm_sound ρ (a ⊕ b) = add_sound ρ (norm a) (norm b) ∙ ap₂ ◌+ℤ◌ (norm_sound ρ a) (norm_sound ρ b)
@@ -188,7 +188,7 @@ norm_sound ρ (⊝ a) = minus_sound ρ (norm a) ∙ ap neg_ℤ (norm_sound ρ a)
 
 -- the solver, with both sides written out as expressions; the last argument is `refl`
 pub ring_ex : (ρ : List ℤ) (l r : Ex) → norm l ≡ norm r → den l ρ ≡ den r ρ
-ring_ex ρ l r e = sym (norm_sound ρ l) ∙ ap (evP ρ) e ∙ norm_sound ρ r
+ring_ex ρ l r e = sym (norm_sound ρ l) ∙ ap (ev_poly ρ) e ∙ norm_sound ρ r
 
 -- ---- a term of ℤ, read as an expression: `Is ρ x` is an expression that means x, and `search reads` finds it
 pub data In : List ℤ → ℤ → Type 0 where
