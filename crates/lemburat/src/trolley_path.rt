@@ -12,8 +12,6 @@ use layers::layers::{Join, Move, Sum};
 use layers::zonotope::Zonotope;
 use plane::fault::Fault;
 use plane::point::Point;
-use std::process::Abort;
-use std::test::Fail;
 
 // A trolley of 1200 by 800, by its two sides from the corner at the origin.
 const TROLLEY: [Point; 2] = [Point { x: 1200, y: 0 }, Point { x: 0, y: 800 }];
@@ -55,22 +53,28 @@ pub fn outline_path(slots: &mut [Point]) -> Result<Counts, Fault>
     outline(path, slots)
 }
 
-#[test]
-fn ten_corners(rt: HostRuntime) -> Result<(), Fail> {
-    let mut slots = [Point { x: 0, y: 0 }; 12];
-    outlines_path(&rt, &mut slots)
-}
-
-// The corners worked out by hand: the octagon of trolley and load at both places, and the way between them.
 #[cfg(test)]
-fn outlines_path(rt: &impl Abort, slots: &mut [Point]) -> Result<(), Fail> {
-    assert!(rt; slots.len() == 12);
-    let counts = outline_path(slots)?;
-    assert_eq!(rt; counts.corners, 10);
-    assert_eq!(rt; counts.probes, 20);
-    assert_eq!(rt; slots[0], Point { x: 4800, y: 2300 });
-    assert_eq!(rt; slots[3], Point { x: 2000, y: 1400 });
-    assert_eq!(rt; slots[9], Point { x: 4800, y: 1500 });
-    assert_eq!(rt; slots[10], Point { x: 0, y: 0 });
-    Ok(())
+mod tests {
+    use super::*;
+    use std::process::Abort;
+    use std::test::Fail;
+
+    #[test]
+    fn ten_corners(rt: HostRuntime) -> Result<(), Fail> {
+        let mut slots = [Point { x: 0, y: 0 }; 12];
+        outlines_path(&rt, &mut slots)
+    }
+
+    // The corners worked out by hand: the octagon of trolley and load at both places, and the way between them.
+    fn outlines_path(rt: &impl Abort, slots: &mut [Point]) -> Result<(), Fail> {
+        assert!(rt; slots.len() == 12);
+        let counts = outline_path(slots)?;
+        assert_eq!(rt; counts.corners, 10);
+        assert_eq!(rt; counts.probes, 20);
+        assert_eq!(rt; slots[0], Point { x: 4800, y: 2300 });
+        assert_eq!(rt; slots[3], Point { x: 2000, y: 1400 });
+        assert_eq!(rt; slots[9], Point { x: 4800, y: 1500 });
+        assert_eq!(rt; slots[10], Point { x: 0, y: 0 });
+        Ok(())
+    }
 }
