@@ -41,7 +41,7 @@ fn loaded_trolley(by: Point) -> Move<Sum<Zonotope<'static>, Ring<'static>>>
 }
 
 // Surveys the trolley on its way until closed: ten corners, which go into the first slots.
-pub fn outline_path(slots: &mut [Point]) -> Result<Counts, Fault>
+fn outline_path(slots: &mut [Point]) -> Result<Counts, Fault>
     requires { 10 ≤ length slots.old }
     ensures tells { result ≡ Ok (record { corners = 10; probes = 20 }) }
     ensures writes { slots.new ≡ path_corners ++ drop 10 slots.old }
