@@ -17,18 +17,6 @@ macro_rules! points {
 
 pub(crate) use points;
 
-// The points (x, x²) for x from -128 on: any number of these are all corners.
-pub(crate) fn fill_with_parabola(points: &mut [Point]) {
-    let mut x: i32 = -128;
-    for p in points.iter_mut() {
-        *p = Point {
-            x,
-            y: x.wrapping_mul(x),
-        };
-        x = x.wrapping_add(1);
-    }
-}
-
 // A count of questions at its start.
 pub(crate) fn none_asked() -> Asked {
     Asked {

@@ -19,7 +19,7 @@ const RECTANGLE: [Point; 5] = [
 ];
 
 // The points (x, x²) for x from -128 on: any number of these are all corners.
-fn fill_with_parabola(points: &mut [Point]) {
+pub(crate) fn fill_with_parabola(points: &mut [Point]) {
     let mut x: i32 = -128;
     for p in points.iter_mut() {
         *p = Point {

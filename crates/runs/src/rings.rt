@@ -1,4 +1,5 @@
-use crate::expect::{fill_with_parabola, outlines, points, refuses};
+use crate::expect::{outlines, points, refuses};
+use crate::outlines::fill_with_parabola;
 use body::body::Body;
 use body::ring::Ring;
 use plane::fault::{Cause, Fault};
