@@ -3,3 +3,4 @@ pub mod Plane
 pub mod Directed
 pub mod Hull
 pub mod Support
+pub mod Text

@@ -1,5 +1,9 @@
-ghost use Rattle.std.specs.Prelude.{◌≡◌};
+ghost use Rattle.std.specs.Prelude.{◌≡◌, Some};
 ghost use Rattle.plane.specs.Fault.{number, fault};
+ghost use Rattle.plane.specs.Text.{fault_text};
+
+use std::error::Error;
+use std::fmt;
 
 // Why a call is refused; `number` is what is printed.
 #[derive(Clone, Copy, PartialEq, Eq, Debug)]
@@ -51,3 +55,19 @@ impl Fault {
         }
     }
 }
+
+impl fmt::Display for Fault {
+    ghost output = { λ f. Some (fault_text f) };
+
+    fn fmt<W: fmt::Write>(&self, f: &mut fmt::Formatter<W>) -> fmt::Result {
+        write!(
+            f,
+            "refused {} {} {}",
+            self.cause.number(),
+            self.place,
+            self.layer
+        )
+    }
+}
+
+impl Error for Fault {}

@@ -1,8 +1,11 @@
-ghost use Rattle.std.specs.Prelude.{◌≡◌};
+ghost use Rattle.std.specs.Prelude.{◌≡◌, Some};
 ghost use Rattle.plane.specs.Plane.{size, greater};
+ghost use Rattle.plane.specs.Text.{point_text};
 
-// A point of the plane, in whole millimetres.
-#[derive(Clone, Copy, PartialEq, Eq, Debug)]
+use std::fmt;
+
+// A point of the plane, in whole millimetres. Points are ordered by x and, at equal x, by y.
+#[derive(Clone, Copy, PartialEq, Eq, PartialOrd, Ord, Debug)]
 pub struct Point {
     pub x: i32,
     pub y: i32,
@@ -20,6 +23,14 @@ impl Point {
     pub fn greater(self, q: Point) -> bool
         ensures { result ≡ greater self q }
     {
-        q.x < self.x || (q.x == self.x && q.y < self.y)
+        self > q
+    }
+}
+
+impl fmt::Display for Point {
+    ghost output = { λ p. Some (point_text p) };
+
+    fn fmt<W: fmt::Write>(&self, f: &mut fmt::Formatter<W>) -> fmt::Result {
+        write!(f, "{} {}", self.x, self.y)
     }
 }

@@ -11,7 +11,7 @@ use crate::point::Point;
 fn times(a: i32, b: i32) -> i64
     ensures { result ≡ a *ℤ b }
 {
-    a as i64 * b as i64
+    i64::from(a) * i64::from(b)
 }
 
 // a·b + c·d, of factors a and c that are a direction's components.
@@ -49,9 +49,8 @@ impl Direction {
     pub fn beyond(self, p: Point, q: Point) -> bool
         ensures { result ≡ beyond (vector self) p q }
     {
-        let here = self.dot(p);
-        let there = self.dot(q);
-        here < there || (here == there && self.perp().dot(p) < self.perp().dot(q))
+        let along = |a: Direction| a.dot(p).cmp(&a.dot(q));
+        along(self).then_with(|| along(self.perp())).is_lt()
     }
 
     // The one of two points that lies farther this way, by the same order.
@@ -66,7 +65,7 @@ impl Direction {
 fn difference(a: i32, b: i32) -> i64
     ensures { result ≡ a -ℤ b }
 {
-    a as i64 - b as i64
+    i64::from(a) - i64::from(b)
 }
 
 // The normal (dy, -dx) of the edge from p to q, with d = q - p, or a refusal where it is no direction.
