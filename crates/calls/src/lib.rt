@@ -1,10 +1,13 @@
 #![tactic(auto)]
 
 // The calls on a survey and what they tell, as values.
+ghost use Rattle.std.specs.Prelude.{Some};
+ghost use Rattle.calls.specs.Text.{counts_text};
 
 use plane::direction::Direction;
 use plane::fault::Fault;
 use plane::point::Point;
+use std::fmt;
 
 // A corner, with the direction that found it.
 #[derive(Clone, Copy, PartialEq, Eq, Debug)]
@@ -41,6 +44,14 @@ pub struct Ran {
 pub struct Counts {
     pub corners: usize,
     pub probes: u32,
+}
+
+impl fmt::Display for Counts {
+    ghost output = { λ c. Some (counts_text c) };
+
+    fn fmt<W: fmt::Write>(&self, f: &mut fmt::Formatter<W>) -> fmt::Result {
+        write!(f, "corners {} probes {}", self.corners, self.probes)
+    }
 }
 
 // A call on a survey; the outline is read into so many slots of a lent buffer.

@@ -5,13 +5,6 @@ use Rattle.std.proofs.lemmas.Int.{to_z-of_z, ints}
 use Rattle.plane.proofs.Order.{abs_mul_le}
 use Rattle.plane.proofs.Laws.{sizes}
 
--- a number of 32 bits, widened to 64
-pub wide : (z : ℤ) → SFits w32 z → to_z w64 (of_z w64 (to_z w32 (of_z w32 z))) ≡ z
-wide z f =
-    let e : to_z w32 (of_z w32 z) ≡ z = to_z-of_z w32 z f in
-    let g : SFits w64 z = omega (arith, ints) in
-    ap (λ (y : ℤ). to_z w64 (of_z w64 y)) e ∙ to_z-of_z w64 z g
-
 -- the greatest product of two numbers of 32 bits is 2^62
 pub product_below : (a b : ℤ) → SFits w32 a → SFits w32 b → nat_abs (a *ℤ b) ≤ 4611686018427387904
 product_below a b f g = abs_mul_le a b 2147483648 2147483648 (nat_abs-le a f.sfits) (nat_abs-le b g.sfits)
@@ -43,12 +36,8 @@ pub sum_fits : (a b c d : ℤ) → nat_abs a ≤ 2000000 → SFits w32 b → nat
 sum_fits a b c d f g h k = omega (arith, sizes, abs_mul_le a b 2000000 2147483648 f (nat_abs-le b g.sfits), abs_mul_le c d 2000000 2147483648 h (nat_abs-le d k.sfits))
 
 -- what a call of `times` gives, from the bits of its arguments
-pub product_read : (a b t : ℤ) → SFits w32 a → SFits w32 b → t ≡ to_z w32 (of_z w32 a) *ℤ to_z w32 (of_z w32 b) → t ≡ a *ℤ b
+product_read : (a b t : ℤ) → SFits w32 a → SFits w32 b → t ≡ to_z w32 (of_z w32 a) *ℤ to_z w32 (of_z w32 b) → t ≡ a *ℤ b
 product_read a b t f g e = e ∙ (λ i. to_z-of_z w32 a f i *ℤ to_z-of_z w32 b g i)
-
--- two such results under an operation, as the code's numbers hold them
-pub pair_read : (op : ℤ → ℤ → ℤ) (s t x y : ℤ) → s ≡ x → t ≡ y → SFits w64 x → SFits w64 y → op (to_z w64 (of_z w64 s)) (to_z w64 (of_z w64 t)) ≡ op x y
-pair_read op s t x y e f g h = (λ i. op (to_z w64 (of_z w64 (e i))) (to_z w64 (of_z w64 (f i)))) ∙ (λ i. op (to_z-of_z w64 x g i) (to_z-of_z w64 y h i))
 
 -- a number that is read as one that fits
 pub fits_read : (s x : ℤ) → s ≡ x → SFits w64 x → SFits w64 s
@@ -56,3 +45,7 @@ fits_read s x e f = subst (SFits w64) (sym e) f
 
 pub value_read : (s x : ℤ) → s ≡ x → SFits w64 x → to_z w64 (of_z w64 s) ≡ x
 value_read s x e f = ap (λ (z : ℤ). to_z w64 (of_z w64 z)) e ∙ to_z-of_z w64 x f
+
+-- two products under an operation, from what two calls of `times` gave, as the code's numbers hold it
+pub products_read : (op : ℤ → ℤ → ℤ) (a b c d s t : ℤ) → SFits w32 a → SFits w32 b → SFits w32 c → SFits w32 d → s ≡ to_z w32 (of_z w32 a) *ℤ to_z w32 (of_z w32 b) → t ≡ to_z w32 (of_z w32 c) *ℤ to_z w32 (of_z w32 d) → op (to_z w64 (of_z w64 s)) (to_z w64 (of_z w64 t)) ≡ op (a *ℤ b) (c *ℤ d)
+products_read op a b c d s t fa fb fc fd e f = (λ i. op (value_read s (a *ℤ b) (product_read a b s fa fb e) (product_fits a b fa fb) i) (value_read t (c *ℤ d) (product_read c d t fc fd f) (product_fits c d fc fd) i))

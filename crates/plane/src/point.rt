@@ -11,6 +11,9 @@ pub struct Point {
     pub y: i32,
 }
 
+// The point (0, 0).
+pub const ORIGIN: Point = Point { x: 0, y: 0 };
+
 impl Point {
     // The greater of the two absolute coordinates.
     pub fn size(self) -> u32

@@ -1,6 +1,6 @@
 -- The sum fits 64 bits and is exact.
 use Rattle.std.proofs.Common.{◌≡◌, ◌+ℤ◌, ◌*ℤ◌, w64, SFits, to_z, of_z}
-use Rattle.plane.proofs.Fit.{product_fits, sum_fits, product_read, pair_read, fits_read, value_read}
+use Rattle.plane.proofs.Fit.{sum_fits, products_read, fits_read, value_read}
 use Rattle.plane.proofs.products.products_sum.Goals as goal
 
 module _ (c : goal.After-times-2) where
@@ -8,7 +8,7 @@ module _ (c : goal.After-times-2) where
   fits = sum_fits _ _ _ _ c.requires.first c.ranges.b c.requires.second c.ranges.d
 
   value : to_z w64 (of_z w64 c.times.result) +ℤ to_z w64 (of_z w64 c.times-2.result) ≡ c.args.a *ℤ c.args.b +ℤ c.args.c *ℤ c.args.d
-  value = pair_read ◌+ℤ◌ _ _ _ _ (product_read _ _ _ c.ranges.a c.ranges.b c.times.ensures) (product_read _ _ _ c.ranges.c c.ranges.d c.times-2.ensures) (product_fits _ _ c.ranges.a c.ranges.b) (product_fits _ _ c.ranges.c c.ranges.d)
+  value = products_read ◌+ℤ◌ _ _ _ _ _ _ c.ranges.a c.ranges.b c.ranges.c c.ranges.d c.times.ensures c.times-2.ensures
 
 pub overflow_add-result : goal.overflow_add-result
 overflow_add-result c = fits_read _ _ (value c) (fits c)
