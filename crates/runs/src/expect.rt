@@ -48,14 +48,13 @@ pub(crate) fn outlines<B: Body + Drop>(
 ) -> Result<(), Fail> {
     let mut survey = Survey::open(body);
     assert_eq!(rt; survey.run(1000).ended, Ended::Closed);
-    assert_eq!(rt; survey.counts().corners, corners.len());
-    for i in 0..corners.len() {
-        let corner = survey.corner(i)?;
-        assert_eq!(rt; corner.at, corners[i]);
+    for (i, at) in corners.iter().enumerate() {
+        assert_eq!(rt; survey.corner(i)?.at, *at);
     }
-    assert_eq!(rt;
-        survey.counts().probes as usize,
-        corners.len().wrapping_mul(2)
-    );
+    let counts = Counts {
+        corners: corners.len(),
+        probes: u32::try_from(corners.len().wrapping_mul(2))?,
+    };
+    assert_eq!(rt; survey.counts(), counts);
     Ok(())
 }

@@ -74,8 +74,8 @@ const RUNS: [(u32, Ran); 7] = [
 #[test]
 fn budgets(rt: HostRuntime) {
     let mut survey = Survey::open(Set::new(&SQUARE));
-    for i in 0..7 {
-        assert_eq!(rt; survey.run(RUNS[i].0), RUNS[i].1);
+    for (budget, ran) in RUNS {
+        assert_eq!(rt; survey.run(budget), ran);
     }
     let mut whole = Survey::open(Set::new(&SQUARE));
     let ended = Ended::Closed;
@@ -99,9 +99,9 @@ fn follow(
 ) -> Result<(), Fail> {
     let survey = replay(Set::new(&SQUARE), log, buffer);
     assert_eq!(rt; survey.counts().corners, 4);
-    for i in 0..expected.len() {
-        let told = log.get(i).ok_or("no entry")?.told;
-        assert_eq!(rt; told, Some(expected[i]));
+    assert_eq!(rt; log.len(), expected.len());
+    for (entry, told) in log.iter().zip(expected) {
+        assert_eq!(rt; entry.told, Some(*told));
     }
     assert_eq!(rt;
         buffer.last().copied(),

@@ -1,83 +1,40 @@
-use crate::counted::{Asked, Counted};
+use crate::counted::Counted;
+use crate::expect::{none_asked, outlines, points};
 use body::set::Set;
 use calls::{Counts, Ended, Ran};
 use plane::fault::{Cause, Fault};
-use plane::point::Point;
-use std::cell::Cell;
+use plane::point::{ORIGIN, Point};
 use std::process::Abort;
 use std::test::Fail;
 use survey::survey::Survey;
 
-const ORIGIN: Point = Point { x: 0, y: 0 };
-
-const RECTANGLE: [Point; 5] = [
-    Point { x: 0, y: 0 },
-    Point { x: 2, y: 0 },
-    Point { x: 2, y: 1 },
-    Point { x: 0, y: 1 },
-    Point { x: 1, y: 1 },
-];
-
 // The points (x, x²) for x from -128 on: any number of these are all corners.
 pub(crate) fn fill_with_parabola(points: &mut [Point]) {
-    let mut x: i32 = -128;
-    for p in points.iter_mut() {
-        *p = Point {
+    for (point, x) in points.iter_mut().zip(-128i32..) {
+        *point = Point {
             x,
             y: x.wrapping_mul(x),
         };
-        x = x.wrapping_add(1);
     }
-}
-
-// Surveys the points until closed: two probes for each corner, and the corners in this order.
-fn outlines(rt: &impl Abort, points: &[Point], corners: &[Point]) -> Result<(), Fail> {
-    let mut survey = Survey::open(Set::new(points));
-    assert_eq!(rt; survey.run(1000).ended, Ended::Closed);
-    assert_eq!(rt; survey.counts().corners, corners.len());
-    for i in 0..corners.len() {
-        let corner = survey.corner(i)?;
-        assert_eq!(rt; corner.at, corners[i]);
-    }
-    assert_eq!(rt;
-        survey.counts().probes as usize,
-        corners.len().wrapping_mul(2)
-    );
-    Ok(())
 }
 
 // The middle of the upper side, (1, 1), ties with its ends and is no corner.
 #[test]
 fn rectangle(rt: HostRuntime) -> Result<(), Fail> {
-    outlines(
-        &rt,
-        &RECTANGLE,
-        &[
-            Point { x: 2, y: 1 },
-            Point { x: 0, y: 1 },
-            Point { x: 0, y: 0 },
-            Point { x: 2, y: 0 },
-        ],
-    )
+    let rectangle = points![0, 0; 2, 0; 2, 1; 0, 1; 1, 1];
+    outlines(&rt, Set::new(&rectangle), &points![2, 1; 0, 1; 0, 0; 2, 0])
 }
 
 #[test]
 fn one_point_twice(rt: HostRuntime) -> Result<(), Fail> {
-    outlines(&rt, &[Point { x: 5, y: 5 }; 2], &[Point { x: 5, y: 5 }])
+    outlines(&rt, Set::new(&points![5, 5; 5, 5]), &points![5, 5])
 }
 
 // (3, 1) lies on the segment from (0, 0) to (6, 2).
 #[test]
 fn segment(rt: HostRuntime) -> Result<(), Fail> {
-    outlines(
-        &rt,
-        &[
-            Point { x: 0, y: 0 },
-            Point { x: 3, y: 1 },
-            Point { x: 6, y: 2 },
-        ],
-        &[Point { x: 6, y: 2 }, Point { x: 0, y: 0 }],
-    )
+    let segment = points![0, 0; 3, 1; 6, 2];
+    outlines(&rt, Set::new(&segment), &points![6, 2; 0, 0])
 }
 
 // The first open edge is always the leftmost, and the tangent to a chord touches at the middle: when the corner at
@@ -115,10 +72,7 @@ fn one_walk_for_each_probe(rt: HostRuntime) {
 fn one_question_for_each_probe(rt: &impl Abort, points: &mut [Point]) {
     assert!(rt; points.len() == 1024);
     fill_with_parabola(&mut points[0..251]);
-    let asked = Asked {
-        verdicts: Cell::new(0),
-        supports: Cell::new(0),
-    };
+    let asked = none_asked();
     let part = Set::new(points);
     let mut survey = Survey::open(Counted {
         part,
