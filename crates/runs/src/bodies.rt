@@ -1,27 +1,22 @@
-use crate::expect::{points, refuses};
+use crate::expect::{faulty, points};
 use body::body::Body;
 use body::set::Set;
 use plane::direction::Direction;
-use plane::fault::{Cause, Fault};
+use plane::fault::Cause;
 use plane::point::{ORIGIN, Point};
-use std::process::Abort;
 use std::test::Fail;
-
-fn faulty(rt: &impl Abort, points: &[Point], cause: Cause, place: u32) {
-    refuses(rt, Set::new(points), Fault::new(cause, place));
-}
 
 #[test]
 fn faulty_sets(rt: HostRuntime) {
-    faulty(&rt, &[], Cause::NoPoints, 0);
-    faulty(&rt, &[ORIGIN; 1025], Cause::TooManyPoints, 1024);
+    faulty(&rt, Set::new(&[]), Cause::NoPoints, 0);
+    faulty(&rt, Set::new(&[ORIGIN; 1025]), Cause::TooManyPoints, 1024);
     let far = points![0, 0; 1_000_001, 0; 0, -1_000_001];
-    faulty(&rt, &far, Cause::BeyondReach, 1);
-    faulty(&rt, &points![7, i32::MIN], Cause::BeyondReach, 0);
+    faulty(&rt, Set::new(&far), Cause::BeyondReach, 1);
+    faulty(&rt, Set::new(&points![7, i32::MIN]), Cause::BeyondReach, 0);
     let mut many = [ORIGIN; 1025];
     many[2] = Point { x: 2_000_000, y: 0 };
     // the lower cause comes first
-    faulty(&rt, &many, Cause::TooManyPoints, 1024);
+    faulty(&rt, Set::new(&many), Cause::TooManyPoints, 1024);
 }
 
 #[test]

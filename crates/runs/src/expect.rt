@@ -3,7 +3,7 @@ use crate::counted::Asked;
 use body::body::Body;
 use calls::{Counts, Ended, Ran};
 use plane::direction::Direction;
-use plane::fault::Fault;
+use plane::fault::{Cause, Fault};
 use plane::point::Point;
 use std::cell::Cell;
 use std::process::Abort;
@@ -38,6 +38,11 @@ pub(crate) fn refuses<B: Body + Drop>(rt: &impl Abort, body: B, fault: Fault) {
         probes: 0,
     };
     assert_eq!(rt; survey.counts(), counts);
+}
+
+// A body that is faulty under no layer.
+pub(crate) fn faulty<B: Body + Drop>(rt: &impl Abort, body: B, cause: Cause, place: u32) {
+    refuses(rt, body, Fault::new(cause, place));
 }
 
 // Surveyed until closed, a body has two probes for each corner, and the corners in this order.

@@ -17,4 +17,3 @@ mod plane_tests;
 #[cfg(test)]
 mod rings;
 pub mod worked;
-pub mod worked_bodies;

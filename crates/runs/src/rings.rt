@@ -1,20 +1,16 @@
-use crate::expect::{outlines, points, refuses};
+use crate::expect::{faulty, outlines, points, refuses};
 use crate::outlines::fill_with_parabola;
 use body::body::Body;
 use body::ring::Ring;
 use plane::fault::{Cause, Fault};
-use plane::point::Point;
+use plane::point::{ORIGIN, Point};
 use std::process::Abort;
 use std::test::Fail;
-
-fn faulty(rt: &impl Abort, corners: &[Point], cause: Cause, place: u32) {
-    refuses(rt, Ring::new(corners), Fault::new(cause, place));
-}
 
 fn unlawful(rt: &impl Abort, corners: &[Point], step: u32, why: &str) {
     let fault = Fault::new(Cause::UnlawfulStep, step);
     assert_eq!(rt; Ring::new(corners).verdict(), Err(fault), "{why}");
-    faulty(rt, corners, Cause::UnlawfulStep, step);
+    refuses(rt, Ring::new(corners), fault);
 }
 
 #[test]
@@ -67,9 +63,9 @@ fn closes(rt: &impl Abort, corners: &mut [Point]) -> Result<(), Fail> {
 
 #[test]
 fn faulty_rings(rt: HostRuntime) {
-    faulty(&rt, &[], Cause::NoPoints, 0);
-    faulty(&rt, &[Point { x: 0, y: 0 }; 257], Cause::TooManyPoints, 256);
+    faulty(&rt, Ring::new(&[]), Cause::NoPoints, 0);
+    faulty(&rt, Ring::new(&[ORIGIN; 257]), Cause::TooManyPoints, 256);
     // before any step
     let far = points![0, 0; 2, 1_000_001; 2, 2];
-    faulty(&rt, &far, Cause::BeyondReach, 1);
+    faulty(&rt, Ring::new(&far), Cause::BeyondReach, 1);
 }

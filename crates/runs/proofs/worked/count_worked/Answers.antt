@@ -3,7 +3,7 @@ use Rattle.std.proofs.Common.{refl}
 use Rattle.survey.specs.Rules.{until_closed}
 use Rattle.runs.proofs.worked.count_worked.Goals as goal
 
--- both by computing
+-- all by computing
 pub returns : goal.returns
 unfolding until_closed
-returns c = record { count = refl; right = tt }
+returns c = record { sets = refl; bodies = refl; right = tt; bodies_right = tt }
