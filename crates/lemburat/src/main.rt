@@ -9,7 +9,7 @@ use body::body::Body;
 use body::set::Set;
 use calls::{Counts, Ended, Ran};
 use plane::fault::Fault;
-use plane::point::Point;
+use plane::point::{ORIGIN, Point};
 use std::io;
 use survey::survey::Survey;
 
@@ -51,20 +51,15 @@ fn outline<A: Body + Drop>(body: A, slots: &mut [Point]) -> Result<Counts, Fault
 }
 
 fn main(rt: HostRuntime) -> io::Result<()> {
-    let mut slots = [Point { x: 0, y: 0 }; 256];
+    let mut slots = [ORIGIN; 256];
     match outline(Set::new(&SAMPLE), &mut slots) {
         Ok(counts) => {
-            println!(rt; "corners {} probes {}", counts.corners, counts.probes)?;
+            println!(rt; "{counts}")?;
             for corner in slots.iter().take(counts.corners) {
-                println!(rt; "{} {}", corner.x, corner.y)?;
+                println!(rt; "{corner}")?;
             }
             Ok(())
         }
-        Err(fault) => println!(rt;
-            "refused {} {} {}",
-            fault.cause.number(),
-            fault.place,
-            fault.layer
-        ),
+        Err(fault) => println!(rt; "{fault}"),
     }
 }

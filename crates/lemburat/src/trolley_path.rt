@@ -11,7 +11,7 @@ use calls::Counts;
 use layers::layers::{Join, Move, Sum};
 use layers::zonotope::Zonotope;
 use plane::fault::Fault;
-use plane::point::Point;
+use plane::point::{ORIGIN, Point};
 
 // A trolley of 1200 by 800, by its two sides from the corner at the origin.
 const TROLLEY: [Point; 2] = [Point { x: 1200, y: 0 }, Point { x: 0, y: 800 }];
@@ -34,7 +34,7 @@ fn loaded_trolley(by: Point) -> Move<Sum<Zonotope<'static>, Ring<'static>>>
     ensures { moved result.by (summed (zonotope_meaning result.part.left.base result.part.left.generators.now) (ring_meaning result.part.right.corners.now)) ≡ trolley by }
 {
     let part = Sum {
-        left: Zonotope::new(Point { x: 0, y: 0 }, &TROLLEY),
+        left: Zonotope::new(ORIGIN, &TROLLEY),
         right: Ring::new(&LOAD),
     };
     Move { part, by }
@@ -61,7 +61,7 @@ mod tests {
 
     #[test]
     fn ten_corners(rt: HostRuntime) -> Result<(), Fail> {
-        let mut slots = [Point { x: 0, y: 0 }; 12];
+        let mut slots = [ORIGIN; 12];
         outlines_path(&rt, &mut slots)
     }
 
@@ -74,7 +74,7 @@ mod tests {
         assert_eq!(rt; slots[0], Point { x: 4800, y: 2300 });
         assert_eq!(rt; slots[3], Point { x: 2000, y: 1400 });
         assert_eq!(rt; slots[9], Point { x: 4800, y: 1500 });
-        assert_eq!(rt; slots[10], Point { x: 0, y: 0 });
+        assert_eq!(rt; slots[10], ORIGIN);
         Ok(())
     }
 }

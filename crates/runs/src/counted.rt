@@ -6,7 +6,7 @@ use plane::point::Point;
 use std::cell::Cell;
 
 // How often each question was asked.
-#[derive(Drop)]
+#[derive(Default, Drop)]
 pub struct Asked {
     pub verdicts: Cell<u32>,
     pub supports: Cell<u32>,
@@ -25,16 +25,12 @@ impl<B: Body> Body for Counted<'_, B> {
     ghost bounded = { λ c. B.Body.bounded c.part };
 
     fn verdict(&self) -> Result<u32, Fault> {
-        self.asked
-            .verdicts
-            .set(self.asked.verdicts.get().wrapping_add(1));
+        self.asked.verdicts.update(|n| n.wrapping_add(1));
         self.part.verdict()
     }
 
     fn support(&self, u: Direction) -> Result<Point, Fault> {
-        self.asked
-            .supports
-            .set(self.asked.supports.get().wrapping_add(1));
+        self.asked.supports.update(|n| n.wrapping_add(1));
         self.part.support(u)
     }
 }

@@ -1,11 +1,9 @@
 // What a body is expected to do, asked directly and through a survey.
-use crate::counted::Asked;
 use body::body::Body;
 use calls::{Counts, Ended, Ran};
 use plane::direction::Direction;
 use plane::fault::{Cause, Fault};
 use plane::point::Point;
-use std::cell::Cell;
 use std::process::Abort;
 use std::test::Fail;
 use survey::survey::Survey;
@@ -16,14 +14,6 @@ macro_rules! points {
 }
 
 pub(crate) use points;
-
-// A count of questions at its start.
-pub(crate) fn none_asked() -> Asked {
-    Asked {
-        verdicts: Cell::new(0),
-        supports: Cell::new(0),
-    }
-}
 
 // A faulty body gives its fault to both questions, to a probe and to a run, and the survey stays empty.
 pub(crate) fn refuses<B: Body + Drop>(rt: &impl Abort, body: B, fault: Fault) {

@@ -1,5 +1,5 @@
-use crate::counted::Counted;
-use crate::expect::{none_asked, outlines, points};
+use crate::counted::{Asked, Counted};
+use crate::expect::{outlines, points};
 use body::set::Set;
 use calls::{Counts, Ended, Ran};
 use plane::fault::{Cause, Fault};
@@ -72,7 +72,7 @@ fn one_walk_for_each_probe(rt: HostRuntime) {
 fn one_question_for_each_probe(rt: &impl Abort, points: &mut [Point]) {
     assert!(rt; points.len() == 1024);
     fill_with_parabola(&mut points[0..251]);
-    let asked = none_asked();
+    let asked = Asked::default();
     let part = Set::new(points);
     let mut survey = Survey::open(Counted {
         part,

@@ -1,5 +1,5 @@
-use crate::counted::Counted;
-use crate::expect::{none_asked, outlines, points, refuses};
+use crate::counted::{Asked, Counted};
+use crate::expect::{outlines, points, refuses};
 use crate::faulty::Faulty;
 use body::body::Body;
 use body::ring::Ring;
@@ -162,8 +162,8 @@ fn layer_numbers(rt: HostRuntime) {
 fn one_question_for_each_part(rt: HostRuntime) -> Result<(), Fail> {
     let triangle = points![2, 2; 0, 0; 2, 0];
     let part = Ring::new(&triangle);
-    let of_left = none_asked();
-    let of_right = none_asked();
+    let of_left = Asked::default();
+    let of_right = Asked::default();
     let left = Counted {
         part,
         asked: &of_left,
