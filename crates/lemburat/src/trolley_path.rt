@@ -31,7 +31,7 @@ const NEXT_PLACE: Point = Point { x: 3500, y: 1500 };
 
 // The trolley with its load, moved to a place.
 fn loaded_trolley(by: Point) -> Move<Sum<Zonotope<'static>, Ring<'static>>>
-    ensures { moved result.by (summed (zonotope_meaning result.part.left.base result.part.left.generators.now) (ring_meaning result.part.right.corners.now)) ≡ trolley by }
+    ensures { moved result.by (summed (zonotope_meaning result.part.left.base result.part.left.generators.now) (ring_meaning result.part.right.shape.corners.now)) ≡ trolley by }
 {
     let part = Sum {
         left: Zonotope::new(Point { x: 0, y: 0 }, &TROLLEY),
