@@ -1,3 +1,4 @@
 pub mod Walks
 pub mod Answering
 pub mod Stepping
+pub mod Spans

@@ -1,8 +1,11 @@
 #![tactic(auto)]
 
 pub mod body;
+mod generators;
 mod judged;
+mod points;
 pub mod reach;
 pub mod ring;
 pub mod set;
 mod steps;
+pub mod zonotope;

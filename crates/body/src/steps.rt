@@ -1,10 +1,11 @@
 // The steps of a ring, and the first that is unlawful.
 ghost use Rattle.std.specs.Prelude.{◌≡◌, ◌<◌, length, pos, int_lt};
 ghost use Rattle.std.specs.List.{AllByRecursion};
-ghost use Rattle.plane.specs.Plane.{minus, orientation, next};
+ghost use Rattle.plane.specs.Plane.{orientation, next};
 ghost use Rattle.body.specs.Meaning.{Within};
 ghost use Rattle.body.specs.Ring.{previous, unlawful_by, first_unlawful};
 
+use crate::points::minus;
 use plane::point::Point;
 use plane::products::cross;
 
@@ -24,18 +25,6 @@ fn previous(n: usize, i: usize) -> usize
     ensures within { result < n }
 {
     if i == 0 { n - 1 } else { i - 1 }
-}
-
-// p - q.
-fn minus(p: Point, q: Point) -> Point
-    requires left { Within 1000000 p }
-    requires right { Within 1000000 q }
-    ensures { result ≡ minus p q }
-{
-    Point {
-        x: p.x - q.x,
-        y: p.y - q.y,
-    }
 }
 
 // Whether the way from a through b to c turns strictly left.

@@ -2,9 +2,9 @@
 use Rattle.std.proofs.Common.{sym, refl, ◌∙◌}
 use Rattle.std.proofs.lemmas.Bool.{cond-true, cond-false}
 use Rattle.plane.specs.Plane.{vector}
-use Rattle.layers.proofs.Spans.{next_fits, picks_next, picks_all}
-use Rattle.layers.proofs.generators.farthest_choice.Goals as goal
-use Rattle.layers.proofs.generators.farthest_choice.Goals.{then-beyond, else-beyond}
+use Rattle.body.proofs.Spans.{next_fits, picks_next, picks_all}
+use Rattle.body.proofs.generators.farthest_choice.Goals as goal
+use Rattle.body.proofs.generators.farthest_choice.Goals.{then-beyond, else-beyond}
 
 pub loop-i-init : goal.loop-i-init
 loop-i-init c = record { rest = refl; low = c.requires }

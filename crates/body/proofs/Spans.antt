@@ -13,8 +13,8 @@ use Rattle.plane.proofs.Points.{point_same}
 use Rattle.plane.proofs.Supporting.{not_beyond_itself, beyond_yes, beyond_no}
 use Rattle.body.specs.Bounds.{wider, size_within, plus_within}
 use Rattle.body.specs.Meaning.{Within}
-use Rattle.layers.specs.Zonotope.{choices, span, overrun}
-use Rattle.layers.specs.ZonotopeKept.{span_more}
+use Rattle.body.specs.Zonotope.{choices, span, overrun}
+use Rattle.body.specs.ZonotopeKept.{span_more}
 
 -- ---- the running reach
 

@@ -2,11 +2,11 @@
 ghost use Rattle.std.specs.Prelude.{◌≡◌, ◌≤◌, length};
 ghost use Rattle.plane.specs.Plane.{size, vector};
 ghost use Rattle.plane.specs.Support.{Supports};
-ghost use Rattle.layers.specs.Zonotope.{choices, span, overrun, zonotope_verdict};
+ghost use Rattle.body.specs.Zonotope.{choices, span, overrun, zonotope_verdict};
 
 use crate::points::plus;
+use crate::reach::LIMIT;
 use crate::zonotope::MOST;
-use body::reach::LIMIT;
 use plane::direction::Direction;
 use plane::fault::{Cause, Fault};
 use plane::point::Point;

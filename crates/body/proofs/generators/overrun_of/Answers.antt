@@ -1,8 +1,8 @@
 -- The walk for the place where the running reach passes the limit.
 use Rattle.std.proofs.Common.{ℕ, ap, ◌∙◌, arith}
-use Rattle.layers.specs.Zonotope.{overrun}
-use Rattle.layers.proofs.Spans.{overrun_next, overrun_found, overrun_all}
-use Rattle.layers.proofs.generators.overrun_of.Goals as goal
+use Rattle.body.specs.Zonotope.{overrun}
+use Rattle.body.proofs.Spans.{overrun_next, overrun_found, overrun_all}
+use Rattle.body.proofs.generators.overrun_of.Goals as goal
 
 pub loop-i-preserved : goal.loop-i-preserved
 loop-i-preserved c = (overrun_next c.args.generators.now c.loop-i.i c.loop-i.reach c.size.result _ c.loop-i-test.true c.if-reach.false c.size.ensures c.loop-i.invariant.0, omega arith)
