@@ -1,7 +1,6 @@
 #![tactic(auto)]
 
 pub mod body;
-mod generators;
 mod judged;
 mod points;
 pub mod reach;
