@@ -1,4 +1,3 @@
-pub mod Walks
 pub mod Answering
-pub mod Stepping
 pub mod Spans
+pub mod Stepping

@@ -10,8 +10,8 @@ use Rattle.plane.specs.Plane.{origin, size, plus}
 use Rattle.plane.specs.Support.{NotBeyond, Supports, beyond}
 use Rattle.plane.proofs.Carrying.{not_beyond_plus}
 use Rattle.plane.proofs.Supporting.{not_beyond_itself, not_beyond_trans, beyond_yes, beyond_no}
-use Rattle.body.specs.Bounds.{wider, size_within, plus_within}
-use Rattle.body.specs.Meaning.{Within, limited}
+use Rattle.body.specs.Bounds.{size_within, plus_within}
+use Rattle.body.specs.Meaning.{limited}
 use Rattle.body.specs.Zonotope.{choices, span, overrun}
 use Rattle.body.specs.ZonotopeKept.{span_more}
 
@@ -62,11 +62,10 @@ size_plus p q = let w = plus_within (size p) (size q) p q (size_within p) (size_
 
 -- p, with gs from place i on to come, stays within the limit: so does p plus the generator at place i, and so does what is chosen there
 module _ (gs : List Point) (i : ℕ) (p : Point) (h : i < length gs) (low : span (size p) (drop i gs) ≤ 1000000) where
-  pub next_fits : Within 1000000 (plus p (get_or gs i origin))
+  pub next_fits : size (plus p (get_or gs i origin)) ≤ 1000000
   next_fits =
       let g = get_or gs i origin in
-      let s = at_drop_more (span (size p)) gs i origin h in
-      wider (size p + size g) 1000000 (omega (arith, span_more (size p + size g) (drop (i + 1) gs))) (plus p g) (plus_within (size p) (size g) p g (size_within p) (size_within g))
+      omega (arith, at_drop_more (span (size p)) gs i origin h, span_more (size p + size g) (drop (i + 1) gs), size_plus p g)
 
   pub next_low : (t : Bool) → span (size (cond t (plus p (get_or gs i origin)) p)) (drop (i + 1) gs) ≤ 1000000
   next_low t =

@@ -1,13 +1,12 @@
 // Sums and differences of points that stay within the bounds of a body.
-ghost use Rattle.std.specs.Prelude.{◌≡◌};
-ghost use Rattle.plane.specs.Plane.{plus, minus};
-ghost use Rattle.body.specs.Meaning.{Within};
+ghost use Rattle.std.specs.Prelude.{◌≡◌, ◌≤◌};
+ghost use Rattle.plane.specs.Plane.{size, plus, minus};
 
 use plane::point::Point;
 
 // p + q.
 pub(crate) fn plus(p: Point, q: Point) -> Point
-    requires { Within 1000000 (plus p q) }
+    requires { size (plus p q) ≤ 1000000 }
     ensures { result ≡ plus p q }
 {
     Point {
@@ -18,8 +17,8 @@ pub(crate) fn plus(p: Point, q: Point) -> Point
 
 // p - q.
 pub(crate) fn minus(p: Point, q: Point) -> Point
-    requires left { Within 1000000 p }
-    requires right { Within 1000000 q }
+    requires left { size p ≤ 1000000 }
+    requires right { size q ≤ 1000000 }
     ensures { result ≡ minus p q }
 {
     Point {

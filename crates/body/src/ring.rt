@@ -1,10 +1,10 @@
 ghost use Rattle.std.specs.Prelude.{◌≡◌};
-ghost use Rattle.body.specs.Ring.{ring_verdict, ring_meaning};
+ghost use Rattle.body.specs.Ring.{ring_meaning};
 ghost use Rattle.body.specs.RingKept.{ring_bounded};
 
 use crate::judged::{Judged, Plain};
 use crate::reach::{farthest, judge};
-use crate::steps::first_unlawful;
+use crate::steps::Steps;
 use plane::direction::Direction;
 use plane::fault::{Cause, Fault};
 use plane::point::Point;
@@ -21,25 +21,20 @@ pub struct Corners<'a> {
     corners: &'a [Point],
 }
 
-// The verdict on the points, and then on the steps between them.
-fn judge_ring(corners: &[Point]) -> Result<u32, Fault>
-    ensures { result ≡ ring_verdict corners.now }
-{
-    let reach = judge(corners, MOST)?;
-    let step = first_unlawful(corners);
-    if step < corners.len() {
-        return Err(Fault::new(Cause::UnlawfulStep, step as u32));
-    }
-    Ok(reach)
-}
-
 impl Plain for Corners<'_> {
     ghost meant = { λ r. ring_meaning r.corners.now };
 
     ghost bounds = { λ r. ring_bounded r.corners.now };
 
     fn judge(&self) -> Result<u32, Fault> {
-        judge_ring(self.corners)
+        let reach = judge(self.corners, MOST)?;
+        let steps = Steps {
+            corners: self.corners,
+        };
+        match steps.first_unlawful() {
+            Some(step) => Err(Fault::new(Cause::UnlawfulStep, step as u32)),
+            None => Ok(reach),
+        }
     }
 
     fn farthest(&self, u: Direction) -> Point {

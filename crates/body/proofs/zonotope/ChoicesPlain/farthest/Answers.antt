@@ -1,7 +1,6 @@
 -- The walk for the farthest choice.
-use Rattle.std.proofs.Common.{get_or, subst, arith}
-use Rattle.std.proofs.lemmas.Grind.{common_steps}
-use Rattle.std.proofs.lemmas.List.{at_drop_all}
+use Rattle.std.proofs.Common.{get_or, sym, ◌∙◌, subst}
+use Rattle.std.proofs.lemmas.List.{at_drop_more, at_drop_all}
 use Rattle.plane.specs.Plane.{origin, plus, vector}
 use Rattle.plane.specs.Support.{Supports, beyond}
 use Rattle.body.specs.Zonotope.{choices}
@@ -13,11 +12,13 @@ plus-requires c = next_fits c.args.self.now.generators.now c.loop-generator.gene
 
 pub loop-generator-preserved : goal.loop-generator-preserved
 loop-generator-preserved c =
+    let u = vector c.args.u in
     let gs = c.args.self.now.generators.now in
     let i = c.loop-generator.generator-index in
     let p = c.loop-generator.best in
-    let t = beyond (vector c.args.u) p (plus p (get_or gs i origin)) in
-    (grind (arith, common_steps), rw (c.farther-best.ensures, c.plus.ensures) (next_low gs i p c.loop-generator-test.true c.loop-generator.invariant.1 t))
+    let t = beyond u p (plus p (get_or gs i origin)) in
+    let more = at_drop_more (picked u p) gs i origin c.loop-generator-test.true in
+    rw (c.farther-best.ensures, c.plus.ensures) (sym more ∙ c.loop-generator.invariant.0, next_low gs i p c.loop-generator-test.true c.loop-generator.invariant.1 t)
 
 pub returns : goal.returns
 returns c =
