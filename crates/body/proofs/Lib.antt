@@ -1,3 +1,3 @@
-pub mod Walks
 pub mod Answering
+pub mod Spans
 pub mod Stepping

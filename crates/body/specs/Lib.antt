@@ -4,3 +4,5 @@ pub mod Set
 pub mod SetKept
 pub mod Ring
 pub mod RingKept
+pub mod Zonotope
+pub mod ZonotopeKept

@@ -1,7 +1,8 @@
 ghost use Rattle.std.specs.Prelude.{◌≡◌, ◌<◌, length};
 ghost use Rattle.plane.specs.Plane.{vector};
 ghost use Rattle.plane.specs.Support.{Supports};
-ghost use Rattle.body.specs.Set.{reach, first_beyond, points_verdict};
+ghost use Rattle.body.specs.Meaning.{limited};
+ghost use Rattle.body.specs.Set.{reach_verdict, points_verdict};
 
 use plane::direction::Direction;
 use plane::fault::{Cause, Fault};
@@ -10,44 +11,40 @@ use plane::point::Point;
 // The greatest reach of a sound body.
 pub const LIMIT: u32 = 1_000_000;
 
-// The largest size of a point.
-fn reach_of(points: &[Point]) -> u32
-    ensures { result ≡ reach points.now }
+// This reach, or the fault at this place where it is beyond the limit.
+pub(crate) fn limited(place: usize, reach: u32) -> Result<u32, Fault>
+    requires { place < 4294967296 }
+    ensures { result ≡ limited place reach }
 {
-    let mut greatest = 0;
-    for i in 0..points.len() {
-        greatest = points[i].size().max(greatest);
+    if reach > LIMIT {
+        return Err(Fault::new(Cause::BeyondReach, place as u32));
     }
-    greatest
+    Ok(reach)
 }
 
-// The number of the first point beyond the limit, or of points where there is none.
-fn first_beyond(points: &[Point]) -> usize
-    ensures { result ≡ first_beyond points.now }
+// The largest size of a point, or the fault at the first point beyond the limit.
+fn reach_of(points: &[Point]) -> Result<u32, Fault>
+    requires { length points.now < 4294967296 }
+    ensures { result ≡ reach_verdict points.now }
 {
-    for i in 0..points.len() {
-        if points[i].size() > LIMIT {
-            return i;
-        }
+    let mut reach = 0;
+    for (i, point) in points.iter().enumerate() {
+        reach = limited(i, point.size())?.max(reach);
     }
-    points.len()
+    Ok(reach)
 }
 
 // The verdict of a list of 1 to `most` points.
 pub(crate) fn judge(points: &[Point], most: u32) -> Result<u32, Fault>
     ensures { result ≡ points_verdict most points.now }
 {
-    if points.len() == 0 {
+    if points.is_empty() {
         return Err(Fault::new(Cause::NoPoints, 0));
     }
     if points.len() > most as usize {
         return Err(Fault::new(Cause::TooManyPoints, most));
     }
-    let reach = reach_of(points);
-    if reach > LIMIT {
-        return Err(Fault::new(Cause::BeyondReach, first_beyond(points) as u32));
-    }
-    Ok(reach)
+    reach_of(points)
 }
 
 // The support point of a list in direction u, in one walk over it.
@@ -56,8 +53,8 @@ pub(crate) fn farthest(points: &[Point], u: Direction) -> Point
     ensures { Supports (vector u) points.now result }
 {
     let mut best = points[0];
-    for i in 1..points.len() {
-        best = u.farther(best, points[i]);
+    for point in &points[1..] {
+        best = u.farther(best, *point);
     }
     best
 }

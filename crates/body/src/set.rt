@@ -1,8 +1,8 @@
 ghost use Rattle.std.specs.Prelude.{◌≡◌};
-ghost use Rattle.body.specs.Set.{set_verdict, set_meaning};
+ghost use Rattle.body.specs.Set.{set_meaning};
 ghost use Rattle.body.specs.SetKept.{set_bounded};
 
-use crate::body::Body;
+use crate::judged::{Judged, Plain};
 use crate::reach::{farthest, judge};
 use plane::direction::Direction;
 use plane::fault::Fault;
@@ -11,34 +11,33 @@ use plane::point::Point;
 // The greatest number of points of a set.
 pub const MOST: u32 = 1024;
 
-// A body that means the points of a list, and keeps the verdict from when it was made.
+// A body that means the points of a list.
+pub type Set<'a> = Judged<Points<'a>>;
+
+// The list that a set is over.
 #[derive(Clone, Copy)]
-pub struct Set<'a> {
+pub struct Points<'a> {
     points: &'a [Point],
-    verdict: Result<u32, Fault>,
-    ghost known: { verdict ≡ set_verdict points.now },
+}
+
+impl Plain for Points<'_> {
+    ghost meant = { λ s. set_meaning s.points.now };
+
+    ghost bounds = { λ s. set_bounded s.points.now };
+
+    fn judge(&self) -> Result<u32, Fault> {
+        judge(self.points, MOST)
+    }
+
+    fn farthest(&self, u: Direction) -> Point {
+        farthest(self.points, u)
+    }
 }
 
 impl<'a> Set<'a> {
     pub fn new(points: &'a [Point]) -> Set<'a>
-        ensures { result.points.now ≡ points.now }
+        ensures { result.shape.points.now ≡ points.now }
     {
-        let verdict = judge(points, MOST);
-        Set { points, verdict }
-    }
-}
-
-impl Body for Set<'_> {
-    ghost meaning = { λ s. set_meaning s.points.now };
-
-    ghost bounded = { λ s. set_bounded s.points.now };
-
-    fn verdict(&self) -> Result<u32, Fault> {
-        self.verdict
-    }
-
-    fn support(&self, u: Direction) -> Result<Point, Fault> {
-        self.verdict?;
-        Ok(farthest(self.points, u))
+        Judged::over(Points { points })
     }
 }

@@ -1,2 +1,1 @@
 pub mod Layering
-pub mod Spans

@@ -1,4 +1,2 @@
-pub mod Zonotope
-pub mod ZonotopeKept
 pub mod Layers
 pub mod LayersKept

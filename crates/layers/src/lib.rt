@@ -1,8 +1,6 @@
 #![tactic(auto)]
 
 mod answers;
-mod generators;
 pub mod layers;
 mod part;
 mod points;
-pub mod zonotope;

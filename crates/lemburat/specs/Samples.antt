@@ -5,7 +5,7 @@ use Rattle.plane.specs.Plane.{point, at, origin}
 use Rattle.body.specs.Meaning.{Meaning}
 use Rattle.body.specs.Ring.{ring_meaning}
 use Rattle.layers.specs.Layers.{moved, summed, joined}
-use Rattle.layers.specs.Zonotope.{zonotope_meaning}
+use Rattle.body.specs.Zonotope.{zonotope_meaning}
 
 -- a trolley of 1200 by 800, with a load that reaches out by 100, at a place
 abbrev pub trolley : Point → Meaning

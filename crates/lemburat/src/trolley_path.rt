@@ -2,14 +2,14 @@
 ghost use Rattle.std.specs.Prelude.{◌≡◌, ◌≤◌, ◌++◌, length, drop, Ok};
 ghost use Rattle.body.specs.Ring.{ring_meaning};
 ghost use Rattle.layers.specs.Layers.{moved, summed};
-ghost use Rattle.layers.specs.Zonotope.{zonotope_meaning};
+ghost use Rattle.body.specs.Zonotope.{zonotope_meaning};
 ghost use Rattle.lemburat.specs.Samples.{trolley, path_corners};
 
 use crate::outline;
 use body::ring::Ring;
 use calls::Counts;
 use layers::layers::{Join, Move, Sum};
-use layers::zonotope::Zonotope;
+use body::zonotope::Zonotope;
 use plane::fault::Fault;
 use plane::point::{ORIGIN, Point};
 
@@ -31,7 +31,7 @@ const NEXT_PLACE: Point = Point { x: 3500, y: 1500 };
 
 // The trolley with its load, moved to a place.
 fn loaded_trolley(by: Point) -> Move<Sum<Zonotope<'static>, Ring<'static>>>
-    ensures { moved result.by (summed (zonotope_meaning result.part.left.base result.part.left.generators.now) (ring_meaning result.part.right.corners.now)) ≡ trolley by }
+    ensures { moved result.by (summed (zonotope_meaning result.part.left.shape.base result.part.left.shape.generators.now) (ring_meaning result.part.right.shape.corners.now)) ≡ trolley by }
 {
     let part = Sum {
         left: Zonotope::new(ORIGIN, &TROLLEY),

@@ -9,7 +9,7 @@ use Rattle.body.specs.Meaning.{Meaning, answer}
 use Rattle.body.specs.Ring.{ring_meaning}
 use Rattle.body.specs.Set.{set_meaning}
 use Rattle.layers.specs.Layers.{moved, halved, quartered, summed, joined}
-use Rattle.layers.specs.Zonotope.{zonotope_meaning}
+use Rattle.body.specs.Zonotope.{zonotope_meaning}
 use Rattle.calls.specs.declared.Ended.{Ended}
 use Rattle.calls.specs.declared.Ended.TheVariants as ended
 use Rattle.survey.specs.Rules.{State, corners, until_closed}

@@ -5,7 +5,7 @@ use body::body::Body;
 use body::ring::Ring;
 use body::set::Set;
 use layers::layers::{Half, Join, Move, Quarter, Sum};
-use layers::zonotope::Zonotope;
+use body::zonotope::Zonotope;
 use plane::direction::Direction;
 use plane::fault::{Cause, Fault};
 use plane::point::Point;

@@ -4,5 +4,5 @@ use Rattle.plane.specs.Plane.{vector}
 use Rattle.plane.specs.Support.{farthest, support}
 use Rattle.body.proofs.reach.farthest.Given as goal
 
-abbrev pub invariant-loop-i : goal.invariant-loop-i
-invariant-loop-i l = farthest (vector l.u) l.best (drop l.i l.points) ≡ support (vector l.u) l.points
+abbrev pub invariant-loop-point : goal.invariant-loop-point
+invariant-loop-point l = farthest (vector l.u) l.best (drop l.point-index l.point-items) ≡ support (vector l.u) l.points

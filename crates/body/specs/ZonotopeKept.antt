@@ -8,7 +8,7 @@ use Rattle.plane.specs.declared.point.Point.{Point}
 use Rattle.plane.specs.Plane.{size, plus}
 use Rattle.body.specs.Bounds.{wider, size_within, plus_within, limited_bounded}
 use Rattle.body.specs.Meaning.{Within, BoundedBy, Bounded}
-use Rattle.layers.specs.Zonotope.{choices, span, overrun, zonotope_meaning}
+use Rattle.body.specs.Zonotope.{choices, span, overrun, zonotope_meaning}
 
 pub span_more : (r : ℕ) (gs : List Point) → r ≤ span r gs
 span_more r [] = omega arith

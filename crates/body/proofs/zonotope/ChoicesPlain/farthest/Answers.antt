@@ -1,0 +1,29 @@
+-- The walk for the farthest choice.
+use Rattle.std.proofs.Common.{get_or, sym, ◌∙◌, subst}
+use Rattle.std.proofs.lemmas.List.{at_drop_more, at_drop_all}
+use Rattle.plane.specs.Plane.{origin, plus, vector}
+use Rattle.plane.specs.Support.{Supports, beyond}
+use Rattle.body.specs.Zonotope.{choices}
+use Rattle.body.proofs.Spans.{picked, picked_supports, next_fits, next_low}
+use Rattle.body.proofs.zonotope.ChoicesPlain.farthest.Goals as goal
+
+pub plus-requires : goal.plus-requires
+plus-requires c = next_fits c.args.self.now.generators.now c.loop-generator.generator-index c.loop-generator.best c.loop-generator-test.true c.loop-generator.invariant.1
+
+pub loop-generator-preserved : goal.loop-generator-preserved
+loop-generator-preserved c =
+    let u = vector c.args.u in
+    let gs = c.args.self.now.generators.now in
+    let i = c.loop-generator.generator-index in
+    let p = c.loop-generator.best in
+    let t = beyond u p (plus p (get_or gs i origin)) in
+    let more = at_drop_more (picked u p) gs i origin c.loop-generator-test.true in
+    rw (c.farther-best.ensures, c.plus.ensures) (sym more ∙ c.loop-generator.invariant.0, next_low gs i p c.loop-generator-test.true c.loop-generator.invariant.1 t)
+
+pub returns : goal.returns
+returns c =
+    let u = vector c.args.u in
+    let b = c.args.self.now.base in
+    let gs = c.args.self.now.generators.now in
+    let all = at_drop_all (picked u c.loop-generator.best) gs c.loop-generator.generator-index c.loop-generator-test.false in
+    subst (Supports u (choices b gs)) (cc) (picked_supports u b gs)

@@ -1,0 +1,67 @@
+ghost use Rattle.std.specs.Prelude.{◌≡◌, ◌+◌, ◌≤◌};
+ghost use Rattle.plane.specs.Plane.{size};
+ghost use Rattle.body.specs.Zonotope.{zonotope_meaning};
+ghost use Rattle.body.specs.ZonotopeKept.{zonotope_bounded};
+
+use crate::judged::{Judged, Plain};
+use crate::points::plus;
+use crate::reach::limited;
+use plane::direction::Direction;
+use plane::fault::{Cause, Fault};
+use plane::point::Point;
+
+// The greatest number of generators of a zonotope.
+pub const MOST: u32 = 64;
+
+// A body that means all sums of a base and some of its generators.
+pub type Zonotope<'a> = Judged<Choices<'a>>;
+
+// The base and the generators that a zonotope is over.
+#[derive(Clone, Copy)]
+pub struct Choices<'a> {
+    base: Point,
+    generators: &'a [Point],
+}
+
+// This reach and the size of one more generator.
+fn grown(reach: u32, generator: Point) -> u32
+    requires { reach ≤ 1000000 }
+    ensures { result ≡ reach + size generator }
+{
+    reach + generator.size()
+}
+
+impl Plain for Choices<'_> {
+    ghost meant = { λ z. zonotope_meaning z.base z.generators.now };
+
+    ghost bounds = { λ z. zonotope_bounded z.base z.generators.now };
+
+    fn judge(&self) -> Result<u32, Fault> {
+        if self.generators.len() > MOST as usize {
+            return Err(Fault::new(Cause::TooManyPoints, MOST));
+        }
+        let mut reach = limited(0, self.base.size())?;
+        for (added, generator) in self.generators.iter().enumerate() {
+            reach = limited(added + 1, grown(reach, *generator))?;
+        }
+        Ok(reach)
+    }
+
+    // The base plus each generator that takes it farther.
+    fn farthest(&self, u: Direction) -> Point {
+        let mut best = self.base;
+        for generator in self.generators {
+            best = u.farther(best, plus(best, *generator));
+        }
+        best
+    }
+}
+
+impl<'a> Zonotope<'a> {
+    pub fn new(base: Point, generators: &'a [Point]) -> Zonotope<'a>
+        ensures at { result.shape.base ≡ base }
+        ensures over { result.shape.generators.now ≡ generators.now }
+    {
+        Judged::over(Choices { base, generators })
+    }
+}
