@@ -23,26 +23,26 @@ some_map t (p ∷ ps) h = omega arith
 map_within : (t : Point → Point) (m n : ℕ) (ps : List Point) → ((p : Point) → Within m p → Within n (t p)) → AllByRecursion (Within m) ps → AllByRecursion (Within n) (map t ps)
 map_within t m n ps law h = All-map (Within n) t ps (All-weaker (Within m) (λ p. Within n (t p)) law ps h)
 
-pub moved_bounded : (v : Point) (m : Meaning) → Bounded m → Bounded (moved v m)
-moved_bounded v m b = record {
+pub moved_bounded : (v : Point) {m : Meaning} → Bounded m → Bounded (moved v m)
+moved_bounded v {m} b = record {
   bounds = over_bounded (λ r. limited 0 (r + size v)) m.verdict m.points (moved v m).points
       (λ r c. limited_bounded 0 (r + size v) (moved v m).points (map_within (λ p. plus p v) r (r + size v) m.points (λ p w. plus_within r (size v) p v w (size_within v)) c.1) (some_map (λ p. plus p v) m.points c.2))
       b.bounds;
 }
 
-turned_bounded : (t : Point → Point) → ((n : ℕ) (p : Point) → Within n p → Within n (t p)) → (m : Meaning) → Bounded m → Bounded (turned t m)
-turned_bounded t law m b = record {
+turned_bounded : (t : Point → Point) → ((n : ℕ) (p : Point) → Within n p → Within n (t p)) → {m : Meaning} → Bounded m → Bounded (turned t m)
+turned_bounded t law {m} b = record {
   bounds = over_bounded (λ r. Ok r) m.verdict m.points (map t m.points) (λ r c. (c.0, map_within t r r m.points (law r) c.1, some_map t m.points c.2)) b.bounds;
 }
 
 abs_neg : (a : ℤ) (n : ℕ) → unsigned_abs a ≤ n → unsigned_abs (neg_ℤ a) ≤ n
 abs_neg a n h = omega (arith, ints)
 
-pub halved_bounded : (m : Meaning) → Bounded m → Bounded (halved m)
-halved_bounded m b = turned_bounded negate (λ n p w. (abs_neg p.x n w.0, abs_neg p.y n w.1)) m b
+pub halved_bounded : {m : Meaning} → Bounded m → Bounded (halved m)
+halved_bounded b = turned_bounded negate (λ n p w. (abs_neg p.x n w.0, abs_neg p.y n w.1)) b
 
-pub quartered_bounded : (m : Meaning) → Bounded m → Bounded (quartered m)
-quartered_bounded m b = turned_bounded perp (λ n p w. (abs_neg p.y n w.1, w.0)) m b
+pub quartered_bounded : {m : Meaning} → Bounded m → Bounded (quartered m)
+quartered_bounded b = turned_bounded perp (λ n p w. (abs_neg p.y n w.1, w.0)) b
 
 -- what holds of each sum
 pub all_sums : (P Q R : Point → Type 0) (ps qs : List Point) → ((p q : Point) → P p → Q q → R (plus p q)) → AllByRecursion P ps → AllByRecursion Q qs → AllByRecursion R (sums ps qs)
@@ -57,8 +57,8 @@ some_sums [] qs h k = h
 some_sums (p ∷ ps) [] h k = absurd (omega arith)
 some_sums (p ∷ ps) (q ∷ qs) h k = omega arith
 
-pub summed_bounded : (m n : Meaning) → Bounded m → Bounded n → Bounded (summed m n)
-summed_bounded m n b c = record {
+pub summed_bounded : {m n : Meaning} → Bounded m → Bounded n → Bounded (summed m n)
+summed_bounded {m} {n} b c = record {
   bounds = over_bounded (λ r. over (λ s. limited 0 (r + s)) n.verdict) m.verdict m.points (sums m.points n.points)
       (λ r d. over_bounded (λ s. limited 0 (r + s)) n.verdict n.points (sums m.points n.points)
       (λ s e. limited_bounded 0 (r + s) (sums m.points n.points) (all_sums (Within r) (Within s) (Within (r + s)) m.points n.points (plus_within r s) d.1 e.1) (some_sums m.points n.points d.2 e.2))
@@ -79,8 +79,8 @@ join_bounds r s ps qs b c =
       some_join ps qs b.2,
     )
 
-pub joined_bounded : (m n : Meaning) → Bounded m → Bounded n → Bounded (joined m n)
-joined_bounded m n b c = record {
+pub joined_bounded : {m n : Meaning} → Bounded m → Bounded n → Bounded (joined m n)
+joined_bounded {m} {n} b c = record {
   bounds = over_bounded (λ r. over (λ s. Ok (max r s)) n.verdict) m.verdict m.points (m.points ++ n.points)
       (λ r d. over_bounded (λ s. Ok (max r s)) n.verdict n.points (m.points ++ n.points) (λ s e. join_bounds r s m.points n.points d e) c.bounds)
       b.bounds;

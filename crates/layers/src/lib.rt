@@ -5,4 +5,5 @@ mod generators;
 pub mod layers;
 mod part;
 mod points;
+mod turn;
 pub mod zonotope;
