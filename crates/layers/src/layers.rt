@@ -4,7 +4,7 @@ ghost use Rattle.layers.specs.Layers.{moved, turned, summed, joined};
 ghost use Rattle.layers.specs.LayersKept.{moved_bounded, summed_bounded, joined_bounded};
 
 use crate::answers::{join_answer, move_answer, sum_answer, turned_answer};
-use crate::part::{PartFault, limited};
+use crate::part::{PartFault, limited_sum};
 use crate::turn::{HalfTurn, QuarterTurn, Turn};
 use body::body::Body;
 use plane::direction::Direction;
@@ -53,7 +53,7 @@ impl<A: Body> Body for Move<A> {
 
     fn verdict(&self) -> Result<u32, Fault> {
         let reach = self.part.verdict().map_err(PartFault)?;
-        limited(reach, self.by.size())
+        limited_sum(reach, self.by.size())
     }
 
     fn support(&self, u: Direction) -> Result<Point, Fault> {
@@ -96,7 +96,7 @@ impl<A: Body, B: Body> Body for Sum<A, B> {
     fn verdict(&self) -> Result<u32, Fault> {
         let left = self.left.verdict().map_err(PartFault)?;
         let right = self.right.verdict().map_err(PartFault)?;
-        limited(left, right)
+        limited_sum(left, right)
     }
 
     fn support(&self, u: Direction) -> Result<Point, Fault> {

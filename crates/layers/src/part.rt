@@ -1,4 +1,4 @@
-// Faults of a layer's part, on their way up.
+// Faults and reaches of a layer's parts, on their way up.
 ghost use Rattle.std.specs.Prelude.{◌≡◌, ◌+◌};
 ghost use Rattle.layers.specs.Layers.{raised};
 ghost use Rattle.body.specs.Meaning.{limited};
@@ -23,7 +23,7 @@ impl From<PartFault> for Fault {
 }
 
 // The sum of two reaches, or a fault where it passes the limit.
-pub(crate) fn limited(left: u32, right: u32) -> Result<u32, Fault>
+pub(crate) fn limited_sum(left: u32, right: u32) -> Result<u32, Fault>
     ensures { result ≡ limited 0 (left + right) }
 {
     let reach = left.saturating_add(right);

@@ -10,13 +10,13 @@ ghost use Rattle.body.specs.Meaning.{Meaning, Within, Bounded};
 use plane::direction::Direction;
 use plane::point::Point;
 
-// A turn of points, and of the direction that a body is asked in back to before the turn.
+// A turn of points, and the turn that takes a direction back to before it.
 pub(crate) trait Turn {
     ghost turn: { Point → Point };
 
     ghost back: { Point → Point };
 
-    // A turned body keeps its bounds.
+    // A body that is turned keeps its bounds.
     ghost bounded: { {m : Meaning} → Bounded m → Bounded (turned turn m) };
 
     fn turn(p: Point) -> Point
@@ -30,6 +30,7 @@ pub(crate) trait Turn {
     ghost carries: { (u : Point) → Carries turn (back u) u };
 }
 
+// A half turn.
 pub struct HalfTurn;
 
 impl Turn for HalfTurn {
