@@ -1,6 +1,7 @@
 -- The answer of a sound layer, from the answers of its parts.
-use Rattle.std.proofs.Common.{◌≡◌, ℕ, zero, suc, ◌<◌, max, true, cond, List, [], ◌∷◌, ◌++◌, map, length, get_or, is_ok, Ok, Err, Result, sym, refl, ap, subst, arith}
+use Rattle.std.proofs.Common.{◌≡◌, ℕ, zero, suc, ◌<◌, max, cond, List, [], ◌∷◌, map, length, get_or, Ok, Err, Result, sym, refl, ap, subst, arith}
 use Rattle.std.specs.List.{ContainsAt}
+use Rattle.std.specs.Result.{IsOk, MatchResult}
 use Rattle.std.proofs.ByRecursion.{all-has, has_append_left, has_append_right}
 use Rattle.std.proofs.lemmas.Bool.{false≢true}
 use Rattle.plane.specs.declared.fault.Fault.{Fault}
@@ -8,54 +9,59 @@ use Rattle.plane.specs.declared.point.Point.{Point}
 use Rattle.plane.specs.Plane.{plus}
 use Rattle.plane.specs.Support.{NotBeyond, Supports, beyond}
 use Rattle.plane.proofs.Carrying.{Carries, map_supports, plus_carries, not_beyond_plus, has_map, append_supports}
+use Rattle.layers.specs.declared.part.PartFault.{PartFault}
 use Rattle.layers.specs.Layers.{over, moved, turned, sums, summed, joined}
-use Rattle.layers.specs.LayersKept.{all_sums, moved_bounded, summed_bounded}
+use Rattle.layers.specs.LayersKept.{all_sums}
 use Rattle.body.specs.Bounds.{wider}
 use Rattle.body.specs.Meaning.{Verdict, Meaning, Within, BoundedBy, Bounded, AnswersBy, Answers}
 
--- ---- what a part tells that answers r, a point p
+-- a body with this meaning is sound, and p is its support point in direction u
+pub record Told (m : Meaning) (u p : Point) : Type 0 where
+  pub reach : ℕ
+  pub sound : m.verdict ≡ Ok reach
+  pub supports : Supports u m.points p
 
-told : (m : Meaning) (u : Point) (r : Result Point Fault) (p : Point) → r ≡ Ok p → Answers m u r → Answers m u (Ok p)
-told m u r p e a = subst (Answers m u) e a
+-- ---- from what is answered to what is told, and back
 
--- it is sound
-sound_by : (u : Point) (v : Verdict) (ps : List Point) (p : Point) → AnswersBy u v ps (Ok p) → (n : ℕ) × (Ok n ≡ v)
-sound_by u (Ok n) ps p a = (n, refl)
-sound_by u (Err f) ps p a = absurd a
+told_by : (m : Meaning) (u p : Point) (v : Verdict) → m.verdict ≡ v → AnswersBy u v m.points (Ok p) → Told m u p
+told_by m u p (Ok n) e a = record { reach = n; sound = e; supports = a }
+told_by m u p (Err f) e a = absurd a
 
-supports_by : (u : Point) (v : Verdict) (ps : List Point) (p : Point) → AnswersBy u v ps (Ok p) → Supports u ps p
-supports_by u (Ok n) ps p a = a
-supports_by u (Err f) ps p a = absurd a
+-- a part answered r, of which `map_err` made p
+pub told : {m : Meaning} {u p : Point} (r : Result Point Fault) → MatchResult r (λ x. ◌≡◌ {A = Result Point PartFault} (Ok p) (Ok x)) (λ _. ⊥) → Answers m u r → Told m u p
+told {m} {u} {p} (Ok x) e a = let same : x ≡ p = cc in told_by m u p m.verdict refl (subst (λ (q : Point). Answers m u (Ok q)) same a)
+told (Err f) e a = absurd e
 
-near_by : (u : Point) (v : Verdict) (ps : List Point) (p : Point) → BoundedBy v ps → AnswersBy u v ps (Ok p) → Within 1000000 p
-near_by u (Ok n) ps p b s = wider n 1000000 b.0 p (all-has (Within n) ps p b.1 s.listed)
-near_by u (Err f) ps p b s = absurd s
+pub answers : {m : Meaning} {u p q : Point} → Told m u p → q ≡ p → Answers m u (Ok q)
+answers {m} {u} {p} {q} t e = subst (λ (v : Verdict). AnswersBy u v m.points (Ok q)) (sym t.sound) (subst (Supports u m.points) (sym e) t.supports)
 
--- and p is its support point, and within the limit
-pub supports : (m : Meaning) (u : Point) (r : Result Point Fault) (p : Point) → r ≡ Ok p → Answers m u r → Supports u m.points p
-supports m u r p e a = supports_by u m.verdict m.points p (told m u r p e a)
+-- ---- what is told stays within the limit
 
-pub near : (m : Meaning) (u : Point) (r : Result Point Fault) (p : Point) → Bounded m → r ≡ Ok p → Answers m u r → Within 1000000 p
-near m u r p b e a = near_by u m.verdict m.points p b.bounds (told m u r p e a)
-
--- a layer that is sound answers its support point
-answers_by : (u : Point) (v : Verdict) (ps : List Point) (p q : Point) → is_ok v ≡ true → Supports u ps p → q ≡ p → AnswersBy u v ps (Ok q)
-answers_by u (Ok n) ps p q e s f = subst (Supports u ps) (sym f) s
-answers_by u (Err x) ps p q e s f = absurd (false≢true e)
+pub near : {m : Meaning} {u p : Point} → Bounded m → Told m u p → Within 1000000 p
+near {m} {u} {p} b t =
+    let w = subst (λ (v : Verdict). BoundedBy v m.points) t.sound b.bounds in
+    wider t.reach 1000000 w.0 p (all-has (Within t.reach) m.points p w.1 t.supports.listed)
 
 -- ---- a layer over one part
 
-module _ (v u : Point) (m : Meaning) (r : Result Point Fault) (p : Point) (sound : is_ok (moved v m).verdict ≡ true) (e : r ≡ Ok p) (a : Answers m u r) where
-  pub moved_answers : (q : Point) → q ≡ plus p v → Answers (moved v m) u (Ok q)
-  moved_answers q f = answers_by u (moved v m).verdict (moved v m).points (plus p v) q sound (map_supports (λ x. plus x v) u u m.points p (plus_carries u v) (supports m u r p e a)) f
+reach_of : (v : Verdict) → IsOk v → (n : ℕ) × (v ≡ Ok n)
+reach_of (Ok n) e = (n, refl)
+reach_of (Err f) e = absurd (false≢true e)
 
-  pub moved_near : Bounded m → Within 1000000 (plus p v)
-  moved_near b = near (moved v m) u (Ok (plus p v)) (plus p v) (moved_bounded v m b) refl (moved_answers (plus p v) refl)
+pub moved_told : (v : Point) {u : Point} {m : Meaning} {p : Point} → IsOk (moved v m).verdict → Told m u p → Told (moved v m) u (plus p v)
+moved_told v {u} {m} {p} e t =
+    let n = reach_of (moved v m).verdict e in record {
+      reach = n.0;
+      sound = n.1;
+      supports = map_supports (λ x. plus x v) u u m.points p (plus_carries u v) t.supports;
+    }
 
-pub turned_answers : (t : Point → Point) (w u : Point) (m : Meaning) (r : Result Point Fault) (p q : Point) → Carries t w u → r ≡ Ok p → Answers m w r → q ≡ t p → Answers (turned t m) u (Ok q)
-turned_answers t w u m r p q law e a f =
-    let n = sound_by w m.verdict m.points p (told m w r p e a) in
-    answers_by u (turned t m).verdict (turned t m).points (t p) q (ap (λ (v : Verdict). is_ok (over (λ x. Ok x) v)) (sym n.1)) (map_supports t w u m.points p law (supports m w r p e a)) f
+pub turned_told : (t : Point → Point) {v w u : Point} {m : Meaning} {p : Point} → v ≡ w → Carries t w u → Told m v p → Told (turned t m) u (t p)
+turned_told t {v} {w} {u} {m} {p} e law s = record {
+  reach = s.reach;
+  sound = ap (over (λ r. Ok r)) s.sound;
+  supports = map_supports t w u m.points p law (subst (λ (x : Point). Supports x m.points p) e s.supports);
+}
 
 -- ---- a layer over two parts
 
@@ -72,16 +78,17 @@ sums_supports u ps qs p q s t = record {
   greatest = all_sums (NotBeyond u p) (NotBeyond u q) (NotBeyond u (plus p q)) ps qs (not_beyond_plus u p q) s.greatest t.greatest;
 }
 
-module _ (u : Point) (m n : Meaning) (r s : Result Point Fault) (p q : Point) (e : r ≡ Ok p) (f : s ≡ Ok q) (a : Answers m u r) (b : Answers n u s) where
-  pub summed_answers : is_ok (summed m n).verdict ≡ true → (x : Point) → x ≡ plus p q → Answers (summed m n) u (Ok x)
-  summed_answers sound x g = answers_by u (summed m n).verdict (sums m.points n.points) (plus p q) x sound (sums_supports u m.points n.points p q (supports m u r p e a) (supports n u s q f b)) g
+pub summed_told : {u : Point} {m n : Meaning} {p q : Point} → IsOk (summed m n).verdict → Told m u p → Told n u q → Told (summed m n) u (plus p q)
+summed_told {u} {m} {n} {p} {q} e s t =
+    let k = reach_of (summed m n).verdict e in record {
+      reach = k.0;
+      sound = k.1;
+      supports = sums_supports u m.points n.points p q s.supports t.supports;
+    }
 
-  pub summed_near : is_ok (summed m n).verdict ≡ true → Bounded m → Bounded n → Within 1000000 (plus p q)
-  summed_near sound c d = near (summed m n) u (Ok (plus p q)) (plus p q) (summed_bounded m n c d) refl (summed_answers sound (plus p q) refl)
-
-  pub joined_answers : (x : Point) → x ≡ cond (beyond u p q) q p → Answers (joined m n) u (Ok x)
-  joined_answers x g =
-      let j = sound_by u m.verdict m.points p (told m u r p e a) in
-      let k = sound_by u n.verdict n.points q (told n u s q f b) in
-      answers_by u (joined m n).verdict (m.points ++ n.points) (cond (beyond u p q) q p) x (λ i. is_ok (over (λ y. over (λ z. Ok (max y z)) (sym k.1 i)) (sym j.1 i)))
-      (append_supports u m.points n.points p q (supports m u r p e a) (supports n u s q f b)) g
+pub joined_told : {u : Point} {m n : Meaning} {p q : Point} → Told m u p → Told n u q → Told (joined m n) u (cond (beyond u p q) q p)
+joined_told {u} {m} {n} {p} {q} s t = record {
+  reach = max s.reach t.reach;
+  sound = λ i. over (λ y. over (λ z. Ok (max y z)) (t.sound i)) (s.sound i);
+  supports = append_supports u m.points n.points p q s.supports t.supports;
+}

@@ -1,12 +1,12 @@
 // The answers of layers, from those of their parts.
-ghost use Rattle.std.specs.Prelude.{◌≡◌, true, is_ok};
-ghost use Rattle.plane.specs.declared.point.Point.{Point};
-ghost use Rattle.plane.specs.Plane.{vector, negate, perp};
-ghost use Rattle.layers.specs.Layers.{moved, halved, quartered, summed, joined};
+ghost use Rattle.std.specs.Prelude.{IsOk};
+ghost use Rattle.plane.specs.Plane.{vector};
+ghost use Rattle.layers.specs.Layers.{moved, turned, summed, joined};
 ghost use Rattle.body.specs.Meaning.{Answers};
 
-use crate::part::of_part;
-use crate::points::{negate, perp, plus};
+use crate::part::PartFault;
+use crate::points::plus;
+use crate::turn::Turn;
 use body::body::Body;
 use plane::direction::Direction;
 use plane::fault::Fault;
@@ -14,27 +14,19 @@ use plane::point::Point;
 
 // The part's answer in direction u, moved; the move is sound.
 pub(crate) fn move_answer<A: Body>(part: &A, by: Point, u: Direction) -> Result<Point, Fault>
-    requires { is_ok (moved by (A.Body.meaning part.now)).verdict ≡ true }
+    requires { IsOk (moved by (A.Body.meaning part.now)).verdict }
     ensures { Answers (moved by (A.Body.meaning part.now)) (vector u) result }
 {
-    let p = of_part(part.support(u))?;
+    let p = part.support(u).map_err(PartFault)?;
     Ok(plus(p, by))
 }
 
-// The part's answer in direction w, negated: the half turn's answer in the direction whose opposite is w.
-pub(crate) fn half_answer<A: Body>(part: &A, w: Direction) -> Result<Point, Fault>
-    ensures { (u : Point) → vector w ≡ negate u → Answers (halved (A.Body.meaning part.now)) u result }
+// The part's answer in the direction before the turn, turned.
+pub(crate) fn turned_answer<A: Body, T: Turn>(part: &A, u: Direction) -> Result<Point, Fault>
+    ensures { Answers (turned T.turn (A.Body.meaning part.now)) (vector u) result }
 {
-    let p = of_part(part.support(w))?;
-    Ok(negate(p))
-}
-
-// The part's answer in direction w, turned: the quarter turn's answer in the direction that is w turned as well.
-pub(crate) fn quarter_answer<A: Body>(part: &A, w: Direction) -> Result<Point, Fault>
-    ensures { (u : Point) → vector w ≡ negate (perp u) → Answers (quartered (A.Body.meaning part.now)) u result }
-{
-    let p = of_part(part.support(w))?;
-    Ok(perp(p))
+    let p = part.support(T::back(u)).map_err(PartFault)?;
+    Ok(T::turn(p))
 }
 
 // The sum of both answers in direction u; the sum is sound.
@@ -43,11 +35,11 @@ pub(crate) fn sum_answer<A: Body, B: Body>(
     right: &B,
     u: Direction,
 ) -> Result<Point, Fault>
-    requires { is_ok (summed (A.Body.meaning left.now) (B.Body.meaning right.now)).verdict ≡ true }
+    requires { IsOk (summed (A.Body.meaning left.now) (B.Body.meaning right.now)).verdict }
     ensures { Answers (summed (A.Body.meaning left.now) (B.Body.meaning right.now)) (vector u) result }
 {
-    let p = of_part(left.support(u))?;
-    let q = of_part(right.support(u))?;
+    let p = left.support(u).map_err(PartFault)?;
+    let q = right.support(u).map_err(PartFault)?;
     Ok(plus(p, q))
 }
 
@@ -59,7 +51,7 @@ pub(crate) fn join_answer<A: Body, B: Body>(
 ) -> Result<Point, Fault>
     ensures { Answers (joined (A.Body.meaning left.now) (B.Body.meaning right.now)) (vector u) result }
 {
-    let p = of_part(left.support(u))?;
-    let q = of_part(right.support(u))?;
+    let p = left.support(u).map_err(PartFault)?;
+    let q = right.support(u).map_err(PartFault)?;
     Ok(u.farther(p, q))
 }

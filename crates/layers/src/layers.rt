@@ -1,13 +1,16 @@
 // Layers over any bodies; each is a body again.
-ghost use Rattle.layers.specs.Layers.{moved, halved, quartered, summed, joined};
-ghost use Rattle.layers.specs.LayersKept.{moved_bounded, halved_bounded, quartered_bounded, summed_bounded, joined_bounded};
+ghost use Rattle.std.specs.Prelude.{◌≡◌};
+ghost use Rattle.layers.specs.Layers.{moved, turned, summed, joined};
+ghost use Rattle.layers.specs.LayersKept.{moved_bounded, summed_bounded, joined_bounded};
 
-use crate::answers::{half_answer, join_answer, move_answer, quarter_answer, sum_answer};
-use crate::part::{limited, of_part};
+use crate::answers::{join_answer, move_answer, sum_answer, turned_answer};
+use crate::part::{PartFault, limited_sum};
+use crate::turn::{HalfTurn, QuarterTurn, Turn};
 use body::body::Body;
 use plane::direction::Direction;
 use plane::fault::Fault;
 use plane::point::Point;
+use std::marker::PhantomData;
 
 // The part, shifted by `by`.
 #[derive(Drop)]
@@ -16,17 +19,18 @@ pub struct Move<A> {
     pub by: Point,
 }
 
-// The part after a half turn about the origin.
+// The part after a turn about the origin.
 #[derive(Drop)]
-pub struct Half<A> {
+pub struct Turned<A, T> {
     pub part: A,
+    turn: PhantomData<T>,
 }
 
-// The part after a quarter turn to the left about the origin.
-#[derive(Drop)]
-pub struct Quarter<A> {
-    pub part: A,
-}
+// The part after a half turn.
+pub type Half<A> = Turned<A, HalfTurn>;
+
+// The part after a quarter turn to the left.
+pub type Quarter<A> = Turned<A, QuarterTurn>;
 
 // All sums of a point of one part and a point of the other.
 #[derive(Drop)]
@@ -45,11 +49,11 @@ pub struct Join<A, B> {
 impl<A: Body> Body for Move<A> {
     ghost meaning = { λ m. moved m.by (A.Body.meaning m.part) };
 
-    ghost bounded = { λ m. moved_bounded m.by (A.Body.meaning m.part) (A.Body.bounded m.part) };
+    ghost bounded = { λ m. moved_bounded m.by (A.Body.bounded m.part) };
 
     fn verdict(&self) -> Result<u32, Fault> {
-        let reach = of_part(self.part.verdict())?;
-        limited(reach as u64 + self.by.size() as u64)
+        let reach = self.part.verdict().map_err(PartFault)?;
+        limited_sum(reach, self.by.size())
     }
 
     fn support(&self, u: Direction) -> Result<Point, Fault> {
@@ -58,45 +62,41 @@ impl<A: Body> Body for Move<A> {
     }
 }
 
-impl<A: Body> Body for Half<A> {
-    ghost meaning = { λ m. halved (A.Body.meaning m.part) };
-
-    ghost bounded = { λ m. halved_bounded (A.Body.meaning m.part) (A.Body.bounded m.part) };
-
-    fn verdict(&self) -> Result<u32, Fault> {
-        Ok(of_part(self.part.verdict())?)
-    }
-
-    fn support(&self, u: Direction) -> Result<Point, Fault> {
-        // What lies farthest this way lay farthest the other way before the turn.
-        half_answer(&self.part, u.opposite())
+impl<A, T> Turned<A, T> {
+    // The turn of the part, as `Half::over(part)`.
+    pub fn over(part: A) -> Turned<A, T>
+        ensures { result.part ≡ part }
+    {
+        Turned {
+            part,
+            turn: PhantomData,
+        }
     }
 }
 
-impl<A: Body> Body for Quarter<A> {
-    ghost meaning = { λ m. quartered (A.Body.meaning m.part) };
+impl<A: Body, T: Turn> Body for Turned<A, T> {
+    ghost meaning = { λ m. turned T.turn (A.Body.meaning m.part) };
 
-    ghost bounded = { λ m. quartered_bounded (A.Body.meaning m.part) (A.Body.bounded m.part) };
+    ghost bounded = { λ m. T.Turn.bounded (A.Body.bounded m.part) };
 
     fn verdict(&self) -> Result<u32, Fault> {
-        Ok(of_part(self.part.verdict())?)
+        Ok(self.part.verdict().map_err(PartFault)?)
     }
 
     fn support(&self, u: Direction) -> Result<Point, Fault> {
-        // A quarter turn to the right undoes the turn of the points.
-        quarter_answer(&self.part, u.perp().opposite())
+        turned_answer::<A, T>(&self.part, u)
     }
 }
 
 impl<A: Body, B: Body> Body for Sum<A, B> {
     ghost meaning = { λ m. summed (A.Body.meaning m.left) (B.Body.meaning m.right) };
 
-    ghost bounded = { λ m. summed_bounded (A.Body.meaning m.left) (B.Body.meaning m.right) (A.Body.bounded m.left) (B.Body.bounded m.right) };
+    ghost bounded = { λ m. summed_bounded (A.Body.bounded m.left) (B.Body.bounded m.right) };
 
     fn verdict(&self) -> Result<u32, Fault> {
-        let left = of_part(self.left.verdict())?;
-        let right = of_part(self.right.verdict())?;
-        limited(left as u64 + right as u64)
+        let left = self.left.verdict().map_err(PartFault)?;
+        let right = self.right.verdict().map_err(PartFault)?;
+        limited_sum(left, right)
     }
 
     fn support(&self, u: Direction) -> Result<Point, Fault> {
@@ -108,11 +108,11 @@ impl<A: Body, B: Body> Body for Sum<A, B> {
 impl<A: Body, B: Body> Body for Join<A, B> {
     ghost meaning = { λ m. joined (A.Body.meaning m.left) (B.Body.meaning m.right) };
 
-    ghost bounded = { λ m. joined_bounded (A.Body.meaning m.left) (B.Body.meaning m.right) (A.Body.bounded m.left) (B.Body.bounded m.right) };
+    ghost bounded = { λ m. joined_bounded (A.Body.bounded m.left) (B.Body.bounded m.right) };
 
     fn verdict(&self) -> Result<u32, Fault> {
-        let left = of_part(self.left.verdict())?;
-        let right = of_part(self.right.verdict())?;
+        let left = self.left.verdict().map_err(PartFault)?;
+        let right = self.right.verdict().map_err(PartFault)?;
         Ok(left.max(right))
     }
 

@@ -1,5 +1,5 @@
-// Faults of a layer's part, on their way up.
-ghost use Rattle.std.specs.Prelude.{◌≡◌, Ok, Err};
+// Faults and reaches of a layer's parts, on their way up.
+ghost use Rattle.std.specs.Prelude.{◌≡◌, ◌+◌};
 ghost use Rattle.layers.specs.Layers.{raised};
 ghost use Rattle.body.specs.Meaning.{limited};
 
@@ -22,22 +22,13 @@ impl From<PartFault> for Fault {
     }
 }
 
-// What a part answered; its fault is marked as a part's.
-pub(crate) fn of_part<T>(answer: Result<T, Fault>) -> Result<T, PartFault>
-    ensures { elim result [ Ok x ↦ answer ≡ Ok x | Err e ↦ answer ≡ Err e.0 ] }
+// The sum of two reaches, or a fault where it passes the limit.
+pub(crate) fn limited_sum(left: u32, right: u32) -> Result<u32, Fault>
+    ensures { result ≡ limited 0 (left + right) }
 {
-    match answer {
-        Ok(x) => Ok(x),
-        Err(fault) => Err(PartFault(fault)),
-    }
-}
-
-// A layer's own reach, or a fault where it passes the limit.
-pub(crate) fn limited(reach: u64) -> Result<u32, Fault>
-    ensures { result ≡ limited 0 reach }
-{
-    if reach > LIMIT as u64 {
+    let reach = left.saturating_add(right);
+    if reach > LIMIT {
         return Err(Fault::new(Cause::BeyondReach, 0));
     }
-    Ok(reach as u32)
+    Ok(reach)
 }

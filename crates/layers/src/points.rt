@@ -1,6 +1,6 @@
 // Arithmetic of points that stay within the bounds of a body.
 ghost use Rattle.std.specs.Prelude.{◌≡◌};
-ghost use Rattle.plane.specs.Plane.{plus, negate, perp};
+ghost use Rattle.plane.specs.Plane.{plus};
 ghost use Rattle.body.specs.Meaning.{Within};
 
 use plane::point::Point;
@@ -14,20 +14,4 @@ pub(crate) fn plus(p: Point, q: Point) -> Point
         x: p.x + q.x,
         y: p.y + q.y,
     }
-}
-
-// -p.
-pub(crate) fn negate(p: Point) -> Point
-    requires { Within 1000000 p }
-    ensures { result ≡ negate p }
-{
-    Point { x: -p.x, y: -p.y }
-}
-
-// A quarter turn to the left, about the origin.
-pub(crate) fn perp(p: Point) -> Point
-    requires { Within 1000000 p }
-    ensures { result ≡ perp p }
-{
-    Point { x: -p.y, y: p.x }
 }

@@ -65,10 +65,10 @@ fn faulty_zonotopes(rt: HostRuntime) -> Result<(), Fail> {
 fn turns(rt: HostRuntime) -> Result<(), Fail> {
     let segment = points![0, 0; 3, 1];
     let part = Set::new(&segment);
-    let half = Half { part };
+    let half = Half::over(part);
     assert_eq!(rt; half.support(Direction::east()), Ok(ORIGIN));
     outlines(&rt, half, &points![0, 0; -3, -1])?;
-    outlines(&rt, Quarter { part }, &points![0, 0; -1, 3])
+    outlines(&rt, Quarter::over(part), &points![0, 0; -1, 3])
 }
 
 // The sum of a unit square and a set turned by a half is a square from (-1, 0) to (1, 2), moved to lie from (9, 0) to
@@ -82,15 +82,11 @@ fn pile(rt: HostRuntime) -> Result<(), Fail> {
     let left: Move<Sum<Zonotope, Half<Set>>> = Move {
         part: Sum {
             left: Zonotope::new(ORIGIN, &square),
-            right: Half {
-                part: Set::new(&set),
-            },
+            right: Half::over(Set::new(&set)),
         },
         by: Point { x: 10, y: 0 },
     };
-    let right = Quarter {
-        part: Ring::new(&ring),
-    };
+    let right = Quarter::over(Ring::new(&ring));
     let pile: Join<Move<Sum<Zonotope, Half<Set>>>, Quarter<Ring>> = Join { left, right };
     assert_eq!(rt; pile.verdict(), Ok(13));
     outlines(&rt, pile, &points![11, 2; 0, 8; -8, 0; 11, 0])
@@ -121,7 +117,7 @@ fn faults_come_up(rt: HostRuntime) -> Result<(), Fail> {
         beyond,
     );
     let empty = Set::new(&[]);
-    let left = Half { part: empty };
+    let left = Half::over(empty);
     refuses(
         &rt,
         Sum { left, right: empty },
@@ -140,12 +136,10 @@ fn layer_numbers(rt: HostRuntime) {
         Join { left, right },
         layered(Cause::BrokenTable, 7, 254),
     );
-    let part = Half { part: left };
+    let part = Half::over(left);
     refuses(
         &rt,
-        Quarter {
-            part: Quarter { part },
-        },
+        Quarter::over(Quarter::over(part)),
         layered(Cause::BrokenTable, 7, 255),
     );
     let sound = Set::new(&[ORIGIN]);

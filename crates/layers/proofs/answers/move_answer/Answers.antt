@@ -1,14 +1,13 @@
 -- The part's answer, moved, is the move's.
-use Rattle.plane.specs.Plane.{vector}
-use Rattle.layers.proofs.Layering.{moved_answers, moved_near}
+use Rattle.layers.specs.LayersKept.{moved_bounded}
+use Rattle.layers.proofs.Layering.{told, answers, near, moved_told}
 use Rattle.layers.proofs.answers.move_answer.Goals as goal
 
 pub plus-requires : goal.plus-requires
 plus-requires g c =
-    moved_near c.args.by (vector c.args.u) (g.A.Body.meaning c.args.part.now) c.support.result c.in_ok-p.p
-    c.requires c.in_ok-p.ensures c.support.ensures (g.A.Body.bounded c.args.part.now)
+    near (moved_bounded c.args.by (g.A.Body.bounded c.args.part.now))
+    (moved_told c.args.by c.requires (told _ c.in_ok-p.ensures.cases c.support.ensures))
 
 pub returns : goal.returns
 returns g c =
-    moved_answers c.args.by (vector c.args.u) (g.A.Body.meaning c.args.part.now) c.support.result c.in_ok-p.p
-    c.requires c.in_ok-p.ensures c.support.ensures c.plus.result c.plus.ensures
+    answers (moved_told c.args.by c.requires (told _ c.in_ok-p.ensures.cases c.support.ensures)) c.plus.ensures

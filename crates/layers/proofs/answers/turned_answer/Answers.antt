@@ -1,0 +1,12 @@
+-- The part's answer, turned, is the turn's.
+use Rattle.plane.specs.Plane.{vector}
+use Rattle.layers.proofs.Layering.{told, answers, near, turned_told}
+use Rattle.layers.proofs.answers.turned_answer.Goals as goal
+
+pub turn-requires : goal.turn-requires
+turn-requires g c =
+    near (g.A.Body.bounded c.args.part.now) (told _ c.in_ok-p.ensures.cases c.support.ensures)
+
+pub returns : goal.returns
+returns g c =
+    answers (turned_told g.T.Turn.turn c.back.ensures (g.met.T.Turn.carries (vector c.args.u)) (told _ c.in_ok-p.ensures.cases c.support.ensures)) c.turn.ensures

@@ -1,0 +1,73 @@
+// Turns of the plane about the origin.
+ghost use Rattle.std.specs.Prelude.{◌≡◌, refl};
+ghost use Rattle.plane.specs.declared.point.Point.{Point};
+ghost use Rattle.plane.specs.Plane.{vector, negate, perp};
+ghost use Rattle.plane.proofs.Carrying.{Carries, half_carries, quarter_carries};
+ghost use Rattle.layers.specs.Layers.{turned};
+ghost use Rattle.layers.specs.LayersKept.{halved_bounded, quartered_bounded};
+ghost use Rattle.body.specs.Meaning.{Meaning, Within, Bounded};
+
+use plane::direction::Direction;
+use plane::point::Point;
+
+// A turn of points, and the turn that takes a direction back to before it.
+pub(crate) trait Turn {
+    ghost turn: { Point → Point };
+
+    ghost back: { Point → Point };
+
+    // A body that is turned keeps its bounds.
+    ghost bounded: { {m : Meaning} → Bounded m → Bounded (turned turn m) };
+
+    fn turn(p: Point) -> Point
+        requires { Within 1000000 p }
+        ensures { result ≡ turn p };
+
+    fn back(u: Direction) -> Direction
+        ensures { vector result ≡ back (vector u) };
+
+    // What lies farthest in direction u lay farthest in direction back u before the turn.
+    ghost carries: { (u : Point) → Carries turn (back u) u };
+}
+
+// A half turn.
+pub struct HalfTurn;
+
+impl Turn for HalfTurn {
+    ghost turn = { negate };
+
+    ghost back = { negate };
+
+    ghost bounded = { halved_bounded };
+
+    ghost carries = { λ u. half_carries (negate u) u refl };
+
+    fn turn(p: Point) -> Point {
+        Point { x: -p.x, y: -p.y }
+    }
+
+    fn back(u: Direction) -> Direction {
+        u.opposite()
+    }
+}
+
+// A quarter turn to the left.
+pub struct QuarterTurn;
+
+impl Turn for QuarterTurn {
+    ghost turn = { perp };
+
+    ghost back = { λ u. negate (perp u) };
+
+    ghost bounded = { quartered_bounded };
+
+    ghost carries = { λ u. quarter_carries (negate (perp u)) u refl };
+
+    fn turn(p: Point) -> Point {
+        Point { x: -p.y, y: p.x }
+    }
+
+    fn back(u: Direction) -> Direction {
+        u.perp().opposite()
+    }
+}
