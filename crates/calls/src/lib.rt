@@ -13,6 +13,16 @@ pub struct Corner {
     pub asked: Direction,
 }
 
+// What a slot holds that no corner is in.
+impl Default for Corner {
+    fn default() -> Corner {
+        Corner {
+            at: Point { x: 0, y: 0 },
+            asked: Direction::east(),
+        }
+    }
+}
+
 // What an accepted probe says: it found a corner, it settled an edge, or all was settled before it.
 #[derive(Clone, Copy, PartialEq, Eq, Debug)]
 pub enum Said {

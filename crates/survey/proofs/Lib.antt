@@ -1,4 +1,3 @@
-pub mod Inserting
 pub mod Marks
 pub mod Steps
 pub mod Stillness

@@ -3,12 +3,10 @@ use Rattle.std.proofs.Common.{◌≡◌, ℕ, zero, suc, ◌+◌, ◌-◌, ◌<�
 use Rattle.std.proofs.lemmas.List.{append_assoc, length-map, length-take-le, set-append_right, drop_more, map_more}
 use Rattle.plane.specs.declared.point.Point.{Point}
 use Rattle.calls.specs.declared.Corner.{Corner}
-use Rattle.survey.specs.declared.survey.Survey.{Survey}
-use Rattle.survey.specs.Rules.{Found, corners}
-use Rattle.survey.specs.State.{marked, state}
-use Rattle.survey.proofs.Steps.{length_state}
+use Rattle.survey.specs.Rules.{Found}
+use Rattle.survey.specs.State.{marked}
 
-corners_marked : (n : ℕ) (cs : List Corner) → map (λ (f : Found). f.corner) (marked n cs) ≡ map (λ (c : Corner). c.at) cs
+pub corners_marked : (n : ℕ) (cs : List Corner) → map (λ (f : Found). f.corner) (marked n cs) ≡ map (λ (c : Corner). c.at) cs
 corners_marked n [] = refl
 corners_marked zero (c ∷ cs) = ap (λ (ps : List Point). c.at ∷ ps) (corners_marked zero cs)
 corners_marked (suc n) (c ∷ cs) = ap (λ (ps : List Point). c.at ∷ ps) (corners_marked n cs)
@@ -26,10 +24,3 @@ written_more cs o b i d h l e =
     ∙ ap (λ (ps : List Point). front ++ ps) rest
     ∙ sym (append_assoc front (p ∷ []) (drop (i + 1) o))
     ∙ ap (λ (ps : List Point). ps ++ drop (i + 1) o) (sym (map_more at cs i d h))
-
--- all are written, and the slots after them are as they were
-pub written_all : {A : Type 0} (s : Survey A) (o b : List Point) (i : ℕ) → i ≡ s.count → b ≡ map (λ (c : Corner). c.at) (take i s.corners) ++ drop i o → b ≡ corners (state s) ++ drop (length (state s).found) o
-written_all s o b i e inv =
-    inv
-    ∙ ap (λ (k : ℕ). map (λ (c : Corner). c.at) (take k s.corners) ++ drop k o) e
-    ∙ sym (λ j. corners_marked s.settled (take s.count s.corners) j ++ drop (length_state s j) o)

@@ -1,30 +1,11 @@
 -- A log of calls, made one after the other.
-use Rattle.std.proofs.Common.{◌≡◌, ℕ, ◌+◌, ◌-◌, ◌<◌, ◌≤◌, min, ◌⊎◌, List, [], ◌∷◌, ◌++◌, length, get_or, take, drop, set, Some, Option, sym, ap, ◌∙◌, inl, inr, arith}
-use Rattle.std.proofs.lemmas.List.{append_assoc, append-nil, take_all, drop_all, map-set, set-get_or, take_more_set, drop_more, drop-set-lt, map_push}
-use Rattle.std.proofs.lemmas.Bool.{cases_lt}
-use Rattle.plane.specs.declared.point.Point.{Point}
+use Rattle.std.proofs.Common.{◌≡◌, ℕ, ◌+◌, ◌<◌, List, [], ◌∷◌, ◌++◌, length, get_or, take, drop, set, Some, Option, sym, ap, ◌∙◌, arith}
+use Rattle.std.proofs.lemmas.List.{append_assoc, map-set, set-get_or, take_more_set, drop_more, drop-set-lt, map_push}
 use Rattle.body.specs.Meaning.{Meaning}
 use Rattle.calls.specs.declared.Call.{Call}
 use Rattle.calls.specs.declared.Entry.{Entry}
 use Rattle.calls.specs.declared.Told.{Told}
 use Rattle.survey.specs.Calls.{Stand, Tells, make, leaves_from, tells_from, telling, calls_of, told_of, each_told}
-
--- ---- the first slots of a buffer, or all that it has
-
-module _ (b : List Point) (slots n : ℕ) (e : n ≡ min slots (length b)) where
-  pub front_slots : take (n - 0) b ≡ take slots b
-  front_slots = go (cases_lt slots (length b))
-    where
-      go : (slots < length b) ⊎ (length b ≤ slots) → take (n - 0) b ≡ take slots b
-      go (inl h) = ap (λ (k : ℕ). take k b) (omega arith)
-      go (inr h) = take_all (n - 0) b (omega arith) ∙ sym (take_all slots b h)
-
-  pub back_slots : drop (n - 0) b ≡ drop slots b
-  back_slots = go (cases_lt slots (length b))
-    where
-      go : (slots < length b) ⊎ (length b ≤ slots) → drop (n - 0) b ≡ drop slots b
-      go (inl h) = ap (λ (k : ℕ). drop k b) (omega arith)
-      go (inr h) = drop_all (n - 0) b (omega arith) ∙ sym (drop_all slots b h)
 
 -- ---- one entry more; es is the log, d what the calls before entry i left, and t what its call tells
 
@@ -56,14 +37,3 @@ module _ (m : Meaning) (es : List Entry) (i : ℕ) (x : Entry) (h : i < length e
       ∙ (λ j. before ++ (Some (e j) ∷ each_told (tells_from m (l j) (calls_of (drop (i + 1) es)))))
       ∙ sym (ap (λ (ks : List Entry). before ++ each_told (tells_from m d (calls_of ks))) (drop_more es i x h))
       ∙ inv
-
--- ---- at the end nothing is left to tell
-
-pub leaves_all : (m : Meaning) (es : List Entry) (i : ℕ) (d D : Stand) → length es ≤ i → leaves_from m d (calls_of (drop i es)) ≡ D → d ≡ D
-leaves_all m es i d D h inv = sym (ap (λ (ks : List Entry). leaves_from m d (calls_of ks)) (drop_all i es h)) ∙ inv
-
-pub tells_all : (m : Meaning) (es : List Entry) (i : ℕ) (d : Stand) (T : List (Option Tells)) → length es ≤ i → told_of (take i es) ++ each_told (tells_from m d (calls_of (drop i es))) ≡ T → told_of es ≡ T
-tells_all m es i d T h inv =
-    sym (append-nil (told_of es))
-    ∙ sym (λ j. told_of (take_all i es h j) ++ each_told (tells_from m d (calls_of (drop_all i es h j))))
-    ∙ inv
