@@ -2,6 +2,9 @@
 
 // The calls on a survey and what they tell, as values.
 
+ghost use Rattle.std.specs.Prelude.{◌≡◌};
+ghost use Rattle.plane.specs.Plane.{origin, vector, east};
+
 use plane::direction::Direction;
 use plane::fault::Fault;
 use plane::point::Point;
@@ -15,6 +18,8 @@ pub struct Corner {
 
 // What a slot holds that no corner is in.
 impl Default for Corner {
+    ghost is_default = { λ c. (c.at ≡ origin) × (vector c.asked ≡ east) };
+
     fn default() -> Corner {
         Corner {
             at: Point { x: 0, y: 0 },

@@ -17,36 +17,39 @@ after k r = record { tells = record { made = k + r.tells.made; ended = r.tells.e
 abbrev pub ended_after : ℕ → State → Ended → Run
 ended_after k s e = record { tells = record { made = k; ended = e }; leaves = s }
 
--- k probes of the run `all` with budget b came before the one on s that said r and left t
+-- k probes of the run `all` with budget b came before one on s, which leaves t
 module _ (m : Meaning) (b k : ℕ) (s t : State) (all : Run) where
+  -- where that one said r, the run goes on or is at its end
   abbrev pub Turned : Result Said Fault → Type 0
   Turned (Ok Corner) = all ≡ after (k + 1) (run m (b - (k + 1)) t)
   Turned (Ok Settled) = all ≡ after (k + 1) (run m (b - (k + 1)) t)
-  Turned (Ok Closed) = all ≡ ended_after k t ended.Closed
-  Turned (Err f) = all ≡ ended_after k t (ended.Refused f)
+  Turned (Ok Closed) = ended_after k t ended.Closed ≡ all
+  Turned (Err f) = ended_after k t (ended.Refused f) ≡ all
 
   goes_on : (rest : Run) → after k (one_more rest) ≡ after (k + 1) rest
   goes_on rest = ap (λ (n : ℕ). record { tells = record { made = n; ended = rest.tells.ended }; leaves = rest.leaves }) (omega arith)
 
-  stops : (e : Ended) → t ≡ s → after k (ends s e) ≡ ended_after k t e
-  stops e q = ap (λ (n : ℕ). ended_after n s e) (omega arith) ∙ ap (λ (x : State). ended_after k x e) (sym q)
+  stops : (e : Ended) → t ≡ s → ended_after k t e ≡ after k (ends s e)
+  stops e q = ap (λ (x : State). ended_after k x e) q ∙ ap (λ (n : ℕ). ended_after n s e) (omega arith)
 
-  pub turned : (r : Result Said Fault) → r ≡ (probe m s).says → t ≡ (probe m s).leaves → k < b → all ≡ after k (run m (b - k) s) → Turned r
-  turned r e l h inv = go r (still m s r t e l) (inv ∙ ap (after k) step)
+  pub turned : (n : Meaning) → n ≡ m → (r : Result Said Fault) → r ≡ (probe n s).says → t ≡ (probe n s).leaves → k < b → all ≡ after k (run m (b - k) s) → Turned r
+  turned n same r e l h inv = go r (still n s r t e l) (inv ∙ ap (after k) step)
     where
       rest : Run
       rest = run m (b - (k + 1)) t
 
       step : run m (b - k) s ≡ follow r s rest
       step =
-          let n : b - k ≡ suc (b - (k + 1)) = omega arith in
-          ap (λ (j : ℕ). run m j s) n ∙ (λ i. follow (sym e i) s (run m (b - (k + 1)) (sym l i)))
+          let more : b - k ≡ suc (b - (k + 1)) = omega arith in
+          let says = e ∙ ap (λ (x : Meaning). (probe x s).says) same in
+          let leaves = l ∙ ap (λ (x : Meaning). (probe x s).leaves) same in
+          ap (λ (j : ℕ). run m j s) more ∙ (λ i. follow (sym says i) s (run m (b - (k + 1)) (sym leaves i)))
 
       go : (r : Result Said Fault) → Still s r t → all ≡ after k (follow r s rest) → Turned r
       go (Ok Corner) q w = w ∙ goes_on rest
       go (Ok Settled) q w = w ∙ goes_on rest
-      go (Ok Closed) q w = w ∙ stops ended.Closed q
-      go (Err f) q w = w ∙ stops (ended.Refused f) q
+      go (Ok Closed) q w = stops ended.Closed q ∙ sym w
+      go (Err f) q w = stops (ended.Refused f) q ∙ sym w
 
   -- a probe that found a corner or settled an edge is counted
   pub counted : (a : Said) → (a ≡ Corner) ⊎ (a ≡ Settled) → Turned (Ok a) → all ≡ after (k + 1) (run m (b - (k + 1)) t)

@@ -1,7 +1,7 @@
-ghost use Rattle.std.specs.Prelude.{◌≡◌, ◌+◌, ◌<◌, ◌≤◌, false, length, Ok, OnErr};
+ghost use Rattle.std.specs.Prelude.{◌≡◌, ◌+◌, ◌<◌, ◌≤◌, false, length, OnErr};
 ghost use Rattle.plane.specs.Directed.{Makes};
 ghost use Rattle.plane.specs.Plane.{vector};
-ghost use Rattle.survey.specs.Rules.{opened, closed, question, edge_end, probe as probed, by_answer, take_in, settling};
+ghost use Rattle.survey.specs.Rules.{opened, closed, question, edge_end, probe as probed, about_edge, take_in};
 ghost use Rattle.survey.specs.State.{state, found_by};
 
 use crate::survey::Survey;
@@ -77,31 +77,18 @@ impl<A> Survey<A> {
         Ok(Said::Corner)
     }
 
-    // Settles the first open edge.
-    #[tactic(auto, using(crate::proofs::Marks::settle_marked))]
-    fn settle(&mut self)
+    // Takes in an answer about the first open edge, whose end settles it; any other is a corner between its ends.
+    #[tactic(auto, using(crate::proofs::Marks::settle_marked, crate::proofs::Steps::same_told))]
+    fn about_edge(&mut self, asked: Direction, at: Point) -> Result<Said, Fault>
         requires { self.old.settled < length self.old.corners.items }
         ensures held { self.new.body ≡ self.old.body }
-        ensures leaves { state self.new ≡ (settling (state self.old) self.old.settled).leaves }
-    {
-        self.settled += 1;
-        self.probes += 1;
-    }
-
-    // Takes in what the body answers: a first corner, the end of the first open edge, or a corner between its ends.
-    #[tactic(auto, using(crate::proofs::Marks::closed_marked))]
-    fn answered(&mut self, asked: Direction, at: Point) -> Result<Said, Fault>
-        requires { closed (state self.old) ≡ false }
-        ensures held { self.new.body ≡ self.old.body }
-        ensures says { result ≡ (by_answer (state self.old) (vector asked) (Ok at)).says }
-        ensures leaves { state self.new ≡ (by_answer (state self.old) (vector asked) (Ok at)).leaves }
+        ensures says { result ≡ (about_edge (state self.old) self.old.settled (vector asked) at).says }
+        ensures leaves { state self.new ≡ (about_edge (state self.old) self.old.settled (vector asked) at).leaves }
         ensures still { OnErr result (state self.new ≡ state self.old) }
     {
-        if self.corners.is_empty() {
-            return self.take_in(0, Corner { at, asked });
-        }
         if at == self.edge_end() {
-            self.settle();
+            self.settled += 1;
+            self.probes += 1;
             return Ok(Said::Settled);
         }
         self.take_in(self.settled + 1, Corner { at, asked })
@@ -110,6 +97,7 @@ impl<A> Survey<A> {
 
 impl<A: Body> Survey<A> {
     // Asks the body once, and takes a corner in or settles an edge; on a closed survey it asks nothing.
+    #[tactic(auto, using(crate::proofs::Marks::closed_marked))]
     pub fn probe(&mut self) -> Result<Said, Fault>
         ensures held { self.new.body ≡ self.old.body }
         ensures says { result ≡ (probed (A.Body.meaning self.old.body) (state self.old)).says }
@@ -121,6 +109,9 @@ impl<A: Body> Survey<A> {
         }
         let asked = self.question()?;
         let at = self.body.support(asked)?;
-        self.answered(asked, at)
+        if self.corners.is_empty() {
+            return self.take_in(0, Corner { at, asked });
+        }
+        self.about_edge(asked, at)
     }
 }

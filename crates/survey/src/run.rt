@@ -15,11 +15,11 @@ impl<A: Body> Survey<A> {
     {
         for made in 0..budget {
             match self.probe() {
+                Ok(Said::Corner | Said::Settled) => {}
                 Ok(Said::Closed) => return Ran {
                     made,
                     ended: Ended::Closed,
                 },
-                Ok(Said::Corner | Said::Settled) => {}
                 Err(fault) => return Ran {
                     made,
                     ended: Ended::Refused(fault),

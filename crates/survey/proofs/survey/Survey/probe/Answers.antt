@@ -1,14 +1,26 @@
--- What the body answers is taken in.
-use Rattle.std.proofs.Common.{Ok, sym, ap, ◌∙◌}
+-- What the body answers is a first corner, or about the first open edge.
+use Rattle.std.proofs.Common.{◌<◌, length, sym, ap, ◌∙◌, arith}
+use Rattle.std.proofs.lemmas.Bool.{eqb-true, eqb-false}
 use Rattle.survey.specs.Rules.{Probed}
 use Rattle.survey.specs.State.{state}
-use Rattle.survey.proofs.Steps.{probe_asked}
+use Rattle.survey.proofs.Marks.{length_marked, first_open_marked}
+use Rattle.survey.proofs.Steps.{probe_first, probe_about}
 use Rattle.survey.proofs.survey.Survey.probe.Goals as goal
+
+pub returns-then-is_empty : goal.returns-then-is_empty
+returns-then-is_empty g c =
+    let s = c.args.self.now in
+    let t = c.take_in.ensures in
+    let not_closed = sym c.is_closed.ensures ∙ c.if-is_closed.false in
+    let none = length_marked s.settled s.corners.items ∙ eqb-true _ _ (sym c.is_empty.ensures ∙ c.if-is_empty.true) in
+    let e = probe_first (g.A.Body.meaning s.body) (state s) c.in_ok-asked.asked c.in_ok-at.at not_closed c.in_ok-asked.ensures c.in_ok-at.ensures none in
+    record { held = t.held; says = t.says ∙ ap (λ (p : Probed). p.says) e; leaves = t.leaves ∙ ap (λ (p : Probed). p.leaves) e; still = t.still }
 
 pub returns : goal.returns
 returns g c =
     let s = c.args.self.now in
-    let t = c.answered.ensures in
+    let t = c.about_edge.ensures in
     let not_closed = sym c.is_closed.ensures ∙ c.if-is_closed.false in
-    let e = probe_asked (g.A.Body.meaning s.body) (state s) c.in_ok-asked.asked (Ok c.in_ok-at.at) not_closed c.in_ok-asked.ensures c.in_ok-at.ensures in
+    let some : 0 < length (state s).found = omega (arith, length_marked s.settled s.corners.items, eqb-false _ _ (sym c.is_empty.ensures ∙ c.if-is_empty.false)) in
+    let e = probe_about (g.A.Body.meaning s.body) (state s) c.in_ok-asked.asked c.in_ok-at.at not_closed c.in_ok-asked.ensures c.in_ok-at.ensures some s.settled (first_open_marked s.settled s.corners.items s.within) in
     record { held = t.held; says = t.says ∙ ap (λ (p : Probed). p.says) e; leaves = t.leaves ∙ ap (λ (p : Probed). p.leaves) e; still = t.still }
