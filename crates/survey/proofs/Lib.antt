@@ -2,5 +2,4 @@ pub mod Marks
 pub mod Steps
 pub mod Stillness
 pub mod Runs
-pub mod Readings
 pub mod Replaying

@@ -1,7 +1,7 @@
 -- A list of corners of whose edges the first n are settled, seen by the rules.
-use Rattle.std.proofs.Common.{◌≡◌, ℕ, zero, suc, ◌+◌, ◌<◌, ◌≤◌, Bool, true, false, eqb, List, [], ◌∷◌, length, get_or, sym, refl, ap, ◌∙◌, add-one, arith}
+use Rattle.std.proofs.Common.{◌≡◌, ℕ, zero, suc, ◌+◌, ◌<◌, ◌≤◌, Bool, true, false, eqb, List, [], ◌∷◌, map, length, get_or, sym, refl, ap, ◌∙◌, add-one, arith}
 use Rattle.std.specs.List.{insert}
-use Rattle.std.proofs.lemmas.Bool.{ltb-true, eqb-false, cond_both, ne_eqb}
+use Rattle.std.proofs.lemmas.Bool.{ltb-true, cond_both, ne_eqb}
 use Rattle.std.proofs.lemmas.Bool.Decides.{nat_tests}
 use Rattle.plane.specs.declared.point.Point.{Point}
 use Rattle.plane.specs.Plane.{next, west, normal}
@@ -29,6 +29,16 @@ corner_marked = field_marked (λ f. f.corner) (λ c. c.at) (λ b c. refl)
 pub asked_marked : (n : ℕ) (cs : List Corner) (i : ℕ) (d : Corner) → i < length cs → (get_or (marked n cs) i nothing).asked ≡ found_by (get_or cs i d)
 asked_marked = field_marked (λ f. f.asked) found_by (λ b c. refl)
 
+-- what a reading needs
+pub ruleset reads = (length_marked, corner_marked, asked_marked)
+
+pub corners_marked : (n : ℕ) (cs : List Corner) → map (λ (f : Found). f.corner) (marked n cs) ≡ map (λ (c : Corner). c.at) cs
+corners_marked n [] = refl
+corners_marked zero (c ∷ cs) = ap (λ (ps : List Point). c.at ∷ ps) (corners_marked zero cs)
+corners_marked (suc n) (c ∷ cs) = ap (λ (ps : List Point). c.at ∷ ps) (corners_marked n cs)
+
+-- ---- open and settled edges
+
 next_below : (n i : ℕ) → 0 < n → next n i < n
 next_below n i h = cond_both _ (i + 1) 0 (λ k. k < n) (ltb-true (i + 1) n) (λ e. h)
 
@@ -52,10 +62,6 @@ pub closed_marked : (n : ℕ) (cs : List Corner) → n ≤ length cs → 0 < len
 closed_marked n [] h some = absurd (omega arith)
 closed_marked zero (c ∷ cs) h some = settled_marked zero (c ∷ cs) h
 closed_marked (suc n) (c ∷ cs) h some = settled_marked (suc n) (c ∷ cs) h
-
--- a survey with a corner that is not closed has an open edge
-pub open_edge : (n : ℕ) (cs : List Corner) → n ≤ length cs → 0 < length cs → closed_list (marked n cs) ≡ false → n < length cs
-open_edge n cs h some o = let e = eqb-false n (length cs) (sym (closed_marked n cs h some) ∙ o) in omega arith
 
 pub settle_marked : (n : ℕ) (cs : List Corner) → n < length cs → marked (n + 1) cs ≡ settle (marked n cs) n
 settle_marked n cs h = ap (λ (m : ℕ). marked m cs) (add-one n) ∙ go n cs h

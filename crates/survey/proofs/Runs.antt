@@ -17,8 +17,14 @@ after k r = record { tells = record { made = k + r.tells.made; ended = r.tells.e
 abbrev pub ended_after : ℕ → State → Ended → Run
 ended_after k s e = record { tells = record { made = k; ended = e }; leaves = s }
 
--- k probes of the run `all` with budget b came before one on s, which leaves t
-module _ (m : Meaning) (b k : ℕ) (s t : State) (all : Run) where
+after_one : (k : ℕ) (rest : Run) → after k (one_more rest) ≡ after (k + 1) rest
+after_one k rest = ap (λ (n : ℕ). record { tells = record { made = n; ended = rest.tells.ended }; leaves = rest.leaves }) (omega arith)
+
+after_ends : (k : ℕ) (s t : State) (e : Ended) → t ≡ s → ended_after k t e ≡ after k (ends s e)
+after_ends k s t e q = ap (λ (x : State). ended_after k x e) q ∙ ap (λ (n : ℕ). ended_after n s e) (omega arith)
+
+-- k probes of the run `all` with budget b came before one that leaves t
+module _ (m : Meaning) (b k : ℕ) (t : State) (all : Run) where
   -- where that one said r, the run goes on or is at its end
   abbrev pub Turned : Result Said Fault → Type 0
   Turned (Ok Corner) = all ≡ after (k + 1) (run m (b - (k + 1)) t)
@@ -26,14 +32,9 @@ module _ (m : Meaning) (b k : ℕ) (s t : State) (all : Run) where
   Turned (Ok Closed) = ended_after k t ended.Closed ≡ all
   Turned (Err f) = ended_after k t (ended.Refused f) ≡ all
 
-  goes_on : (rest : Run) → after k (one_more rest) ≡ after (k + 1) rest
-  goes_on rest = ap (λ (n : ℕ). record { tells = record { made = n; ended = rest.tells.ended }; leaves = rest.leaves }) (omega arith)
-
-  stops : (e : Ended) → t ≡ s → ended_after k t e ≡ after k (ends s e)
-  stops e q = ap (λ (x : State). ended_after k x e) q ∙ ap (λ (n : ℕ). ended_after n s e) (omega arith)
-
-  pub turned : (n : Meaning) → n ≡ m → (r : Result Said Fault) → r ≡ (probe n s).says → t ≡ (probe n s).leaves → k < b → all ≡ after k (run m (b - k) s) → Turned r
-  turned n same r e l h inv = go r (still n s r t e l) (inv ∙ ap (after k) step)
+  -- the probe is one on s
+  pub turned : (s : State) (n : Meaning) (r : Result Said Fault) → n ≡ m → r ≡ (probe n s).says → t ≡ (probe n s).leaves → k < b → all ≡ after k (run m (b - k) s) → Turned r
+  turned s n r same e l h inv = go r (still n s r t e l) (inv ∙ ap (after k) step)
     where
       rest : Run
       rest = run m (b - (k + 1)) t
@@ -46,10 +47,10 @@ module _ (m : Meaning) (b k : ℕ) (s t : State) (all : Run) where
           ap (λ (j : ℕ). run m j s) more ∙ (λ i. follow (sym says i) s (run m (b - (k + 1)) (sym leaves i)))
 
       go : (r : Result Said Fault) → Still s r t → all ≡ after k (follow r s rest) → Turned r
-      go (Ok Corner) q w = w ∙ goes_on rest
-      go (Ok Settled) q w = w ∙ goes_on rest
-      go (Ok Closed) q w = stops ended.Closed q ∙ sym w
-      go (Err f) q w = stops (ended.Refused f) q ∙ sym w
+      go (Ok Corner) q w = w ∙ after_one k rest
+      go (Ok Settled) q w = w ∙ after_one k rest
+      go (Ok Closed) q w = after_ends k s t ended.Closed q ∙ sym w
+      go (Err f) q w = after_ends k s t (ended.Refused f) q ∙ sym w
 
   -- a probe that found a corner or settled an edge is counted
   pub counted : (a : Said) → (a ≡ Corner) ⊎ (a ≡ Settled) → Turned (Ok a) → all ≡ after (k + 1) (run m (b - (k + 1)) t)

@@ -77,7 +77,7 @@ impl<A> Survey<A> {
         Ok(Said::Corner)
     }
 
-    // Takes in an answer about the first open edge, whose end settles it; any other is a corner between its ends.
+    // Takes in an answer about the first open edge: its end settles it, and any other point is a corner.
     #[tactic(auto, using(crate::proofs::Marks::settle_marked, crate::proofs::Steps::same_told))]
     fn about_edge(&mut self, asked: Direction, at: Point) -> Result<Said, Fault>
         requires { self.old.settled < length self.old.corners.items }

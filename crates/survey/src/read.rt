@@ -10,7 +10,6 @@ use plane::point::Point;
 
 impl<A> Survey<A> {
     // Writes the corners into the first slots of `out`, which has enough.
-    #[tactic(auto, using(crate::proofs::Marks::length_marked, crate::proofs::Readings::corners_marked))]
     fn write_corners(&self, out: &mut [Point])
         requires { length self.now.corners.items ≤ length out.old }
         ensures { out.new ≡ corners_of (state self.now) ++ drop (length (state self.now).found) out.old }
@@ -31,7 +30,7 @@ impl<A> Survey<A> {
     }
 
     // Corner i, with the direction that found it.
-    #[tactic(auto, using(crate::proofs::Marks::length_marked, crate::proofs::Marks::corner_marked, crate::proofs::Marks::asked_marked))]
+    #[tactic(auto, using(crate::proofs::Marks::reads))]
     pub fn corner(&self, i: usize) -> Result<Corner, Fault>
         ensures { corner_told result ≡ read_corner (state self.now) i }
     {
