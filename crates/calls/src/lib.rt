@@ -4,6 +4,9 @@
 ghost use Rattle.std.specs.Prelude.{Some};
 ghost use Rattle.calls.specs.Text.{counts_text};
 
+ghost use Rattle.std.specs.Prelude.{◌≡◌};
+ghost use Rattle.plane.specs.Plane.{origin, vector, east};
+
 use plane::direction::Direction;
 use plane::fault::Fault;
 use plane::point::Point;
@@ -14,6 +17,18 @@ use std::fmt;
 pub struct Corner {
     pub at: Point,
     pub asked: Direction,
+}
+
+// What a slot holds that no corner is in.
+impl Default for Corner {
+    ghost is_default = { λ c. (c.at ≡ origin) × (vector c.asked ≡ east) };
+
+    fn default() -> Corner {
+        Corner {
+            at: Point { x: 0, y: 0 },
+            asked: Direction::east(),
+        }
+    }
 }
 
 // What an accepted probe says: it found a corner, it settled an edge, or all was settled before it.

@@ -1,7 +1,5 @@
-pub mod Inserting
 pub mod Marks
 pub mod Steps
 pub mod Stillness
 pub mod Runs
-pub mod Readings
 pub mod Replaying

@@ -1,69 +1,55 @@
 -- A log of calls, made one after the other.
-use Rattle.std.proofs.Common.{◌≡◌, ℕ, ◌+◌, ◌-◌, ◌<◌, ◌≤◌, min, ◌⊎◌, List, [], ◌∷◌, ◌++◌, length, get_or, take, drop, set, Some, Option, sym, ap, ◌∙◌, inl, inr, arith}
-use Rattle.std.proofs.lemmas.List.{append_assoc, append-nil, take_all, drop_all, map-set, set-get_or, take_more_set, drop_more, drop-set-lt, map_push}
-use Rattle.std.proofs.lemmas.Bool.{cases_lt}
-use Rattle.plane.specs.declared.point.Point.{Point}
+use Rattle.std.proofs.Common.{◌≡◌, ℕ, ◌+◌, ◌<◌, List, [], ◌∷◌, ◌++◌, length, get_or, take, drop, set, Some, sym, ap, ◌∙◌, arith}
+use Rattle.std.proofs.lemmas.List.{append_assoc, map-set, set-get_or, take_more_set, drop_more, drop-set-lt, map_push}
 use Rattle.body.specs.Meaning.{Meaning}
 use Rattle.calls.specs.declared.Call.{Call}
 use Rattle.calls.specs.declared.Entry.{Entry}
 use Rattle.calls.specs.declared.Told.{Told}
-use Rattle.survey.specs.Calls.{Stand, Tells, make, leaves_from, tells_from, telling, calls_of, told_of, each_told}
+use Rattle.survey.specs.Calls.{Stand, Done, make, leaves_from, tells_from, telling, calls_of, told_of, each_told}
 
--- ---- the first slots of a buffer, or all that it has
+-- the call of entry i of the log es is made on d: it tells t and leaves d'
+module _ (m : Meaning) (es : List Entry) (i : ℕ) (x : Entry) (within : i < length es) (d d' : Stand) (t : Told) where
+  abbrev call : Call
+  call = (get_or es i x).call
 
-module _ (b : List Point) (slots n : ℕ) (e : n ≡ min slots (length b)) where
-  pub front_slots : take (n - 0) b ≡ take slots b
-  front_slots = go (cases_lt slots (length b))
-    where
-      go : (slots < length b) ⊎ (length b ≤ slots) → take (n - 0) b ≡ take slots b
-      go (inl h) = ap (λ (k : ℕ). take k b) (omega arith)
-      go (inr h) = take_all (n - 0) b (omega arith) ∙ sym (take_all slots b h)
+  -- the log then
+  abbrev noted : List Entry
+  noted = set es i (record { call = call; told = Some t })
 
-  pub back_slots : drop (n - 0) b ≡ drop slots b
-  back_slots = go (cases_lt slots (length b))
-    where
-      go : (slots < length b) ⊎ (length b ≤ slots) → drop (n - 0) b ≡ drop slots b
-      go (inl h) = ap (λ (k : ℕ). drop k b) (omega arith)
-      go (inr h) = drop_all (n - 0) b (omega arith) ∙ sym (drop_all slots b h)
-
--- ---- one entry more; es is the log, d what the calls before entry i left, and t what its call tells
-
-abbrev noted : Entry → Told → Entry
-noted e t = record { call = e.call; told = Some t }
-
-module _ (m : Meaning) (es : List Entry) (i : ℕ) (x : Entry) (h : i < length es) (t : Told) (d d' : Stand) (e : telling t ≡ (make m d (get_or es i x).call).tells) (l : d' ≡ (make m d (get_or es i x).call).leaves) where
-  pub calls_kept : calls_of (set es i (noted (get_or es i x) t)) ≡ calls_of es
+  pub calls_kept : calls_of noted ≡ calls_of es
   calls_kept =
-      let call : Entry → Call = λ k. k.call in
-      map-set call es i (noted (get_or es i x) t) ∙ sym (map-set call es i (get_or es i x)) ∙ ap calls_of (set-get_or es i x)
+      let call_of : Entry → Call = λ k. k.call in
+      map-set call_of es i (record { call = call; told = Some t })
+      ∙ sym (map-set call_of es i (get_or es i x))
+      ∙ ap calls_of (set-get_or es i x)
 
-  rest : drop (i + 1) (set es i (noted (get_or es i x) t)) ≡ drop (i + 1) es
-  rest = drop-set-lt (i + 1) es i (noted (get_or es i x) t) (omega arith)
+  -- the calls from entry i on are its own and those that are left after it
+  left : calls_of (drop i es) ≡ call ∷ calls_of (drop (i + 1) noted)
+  left =
+      let rest : drop (i + 1) noted ≡ drop (i + 1) es = drop-set-lt (i + 1) es i _ (omega arith) in
+      ap calls_of (drop_more es i x within) ∙ ap (λ (ks : List Entry). call ∷ calls_of ks) (sym rest)
 
-  pub leaves_more : (D : Stand) → leaves_from m d (calls_of (drop i es)) ≡ D → leaves_from m d' (calls_of (drop (i + 1) (set es i (noted (get_or es i x) t)))) ≡ D
-  leaves_more D inv =
-      (λ j. leaves_from m (l j) (calls_of (rest j)))
-      ∙ sym (ap (λ (ks : List Entry). leaves_from m d (calls_of ks)) (drop_more es i x h))
-      ∙ inv
+  -- what is told up to entry i
+  told : told_of (take (i + 1) noted) ≡ told_of (take i es) ++ (Some (telling t) ∷ [])
+  told = ap told_of (take_more_set es i _ within) ∙ map_push _ (take i es) _
 
-  pub tells_more : (T : List (Option Tells)) → told_of (take i es) ++ each_told (tells_from m d (calls_of (drop i es))) ≡ T → told_of (take (i + 1) (set es i (noted (get_or es i x) t))) ++ each_told (tells_from m d' (calls_of (drop (i + 1) (set es i (noted (get_or es i x) t))))) ≡ T
-  tells_more T inv =
-      let before = told_of (take i es) in
-      let after = each_told (tells_from m d' (calls_of (drop (i + 1) es))) in
-      let first : told_of (take (i + 1) (set es i (noted (get_or es i x) t))) ≡ before ++ (Some (telling t) ∷ []) = ap told_of (take_more_set es i (noted (get_or es i x) t) h) ∙ map_push _ (take i es) (noted (get_or es i x) t) in
-      (λ j. first j ++ each_told (tells_from m d' (calls_of (rest j))))
-      ∙ append_assoc before (Some (telling t) ∷ []) after
-      ∙ (λ j. before ++ (Some (e j) ∷ each_told (tells_from m (l j) (calls_of (drop (i + 1) es)))))
-      ∙ sym (ap (λ (ks : List Entry). before ++ each_told (tells_from m d (calls_of ks))) (drop_more es i x h))
-      ∙ inv
+  -- what the call does
+  module _ (does : Done) (same : does ≡ make m d call) (leaves : d' ≡ does.leaves) where
+    after : d' ≡ (make m d call).leaves
+    after = leaves ∙ ap (λ (k : Done). k.leaves) same
 
--- ---- at the end nothing is left to tell
+    pub leaves_more : leaves_from m d' (calls_of (drop (i + 1) noted)) ≡ leaves_from m d (calls_of (drop i es))
+    leaves_more =
+        ap (λ (k : Stand). leaves_from m k (calls_of (drop (i + 1) noted))) after
+        ∙ sym (ap (leaves_from m d) left)
 
-pub leaves_all : (m : Meaning) (es : List Entry) (i : ℕ) (d D : Stand) → length es ≤ i → leaves_from m d (calls_of (drop i es)) ≡ D → d ≡ D
-leaves_all m es i d D h inv = sym (ap (λ (ks : List Entry). leaves_from m d (calls_of ks)) (drop_all i es h)) ∙ inv
-
-pub tells_all : (m : Meaning) (es : List Entry) (i : ℕ) (d : Stand) (T : List (Option Tells)) → length es ≤ i → told_of (take i es) ++ each_told (tells_from m d (calls_of (drop i es))) ≡ T → told_of es ≡ T
-tells_all m es i d T h inv =
-    sym (append-nil (told_of es))
-    ∙ sym (λ j. told_of (take_all i es h j) ++ each_told (tells_from m d (calls_of (drop_all i es h j))))
-    ∙ inv
+    pub tells_more : telling t ≡ does.tells → told_of (take (i + 1) noted) ++ each_told (tells_from m d' (calls_of (drop (i + 1) noted))) ≡ told_of (take i es) ++ each_told (tells_from m d (calls_of (drop i es)))
+    tells_more tells =
+        let before = told_of (take i es) in
+        let rest : List Call = calls_of (drop (i + 1) noted) in
+        let more = each_told (tells_from m (make m d call).leaves rest) in
+        let says = tells ∙ ap (λ (k : Done). k.tells) same in
+        (λ j. told j ++ each_told (tells_from m (after j) rest))
+        ∙ append_assoc before (Some (telling t) ∷ []) more
+        ∙ (λ j. before ++ (Some (says j) ∷ more))
+        ∙ sym (ap (λ (cs : List Call). before ++ each_told (tells_from m d cs)) left)

@@ -6,7 +6,7 @@ use Rattle.plane.specs.declared.fault.Fault.{Fault}
 use Rattle.plane.specs.declared.point.Point.{Point}
 use Rattle.plane.specs.Directed.{directed, no_direction}
 use Rattle.plane.specs.Fault.{fault}
-use Rattle.plane.specs.Plane.{origin, east, west, normal, same}
+use Rattle.plane.specs.Plane.{origin, east, west, normal, same, next}
 use Rattle.body.specs.Meaning.{Meaning, answer}
 use Rattle.calls.specs.declared.Said.{Said}
 use Rattle.calls.specs.declared.Said.TheVariants.{Corner, Settled, Closed}
@@ -54,10 +54,6 @@ first_open (c ∷ cs) = cond c.settled (suc (first_open cs)) 0
 
 abbrev pub nothing : Found
 nothing = record { corner = origin; asked = east; settled = false }
-
--- the number of the corner where edge i of n ends
-abbrev pub next : ℕ → ℕ → ℕ
-next n i = cond (nat_lt (i + 1) n) (i + 1) 0
 
 -- the two ends of edge i
 abbrev pub edge_start : List Found → ℕ → Point

@@ -1,5 +1,5 @@
 -- What a survey holds, read off the struct.
-use Rattle.std.specs.Prelude.{ℕ, zero, suc, Bool, true, false, List, [], ◌∷◌, take}
+use Rattle.std.specs.Prelude.{ℕ, zero, suc, Bool, true, false, List, [], ◌∷◌}
 use Rattle.plane.specs.declared.point.Point.{Point}
 use Rattle.plane.specs.Plane.{vector}
 use Rattle.calls.specs.declared.Corner.{Corner}
@@ -20,4 +20,4 @@ marked zero (c ∷ cs) = mark false c ∷ marked zero cs
 marked (suc n) (c ∷ cs) = mark true c ∷ marked n cs
 
 abbrev pub state : {A : Type 0} → Survey A → State
-state s = record { found = marked s.settled (take s.count s.corners); probes = s.probes }
+state s = record { found = marked s.settled s.corners.items; probes = s.probes }

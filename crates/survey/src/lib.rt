@@ -1,6 +1,5 @@
 #![tactic(auto)]
 
-mod insert;
 pub mod probe;
 pub mod read;
 pub mod replay;

@@ -1,10 +1,11 @@
-ghost use Rattle.std.specs.Prelude.{◌≡◌, ◌+◌, ◌<◌, ◌≤◌, false, OnErr};
+ghost use Rattle.std.specs.Prelude.{◌≡◌, ◌+◌, ◌<◌, ◌≤◌, false, length, OnErr};
 ghost use Rattle.plane.specs.Directed.{Makes};
-ghost use Rattle.survey.specs.Rules.{opened, closed, question, edge_end, probe as probed, take_in, settling};
+ghost use Rattle.plane.specs.Plane.{vector};
+ghost use Rattle.survey.specs.Rules.{opened, closed, question, edge_end, probe as probed, about_edge, take_in};
 ghost use Rattle.survey.specs.State.{state, found_by};
 
-use crate::insert::insert_at;
 use crate::survey::Survey;
+use arrayvec::ArrayVec;
 use body::body::Body;
 use calls::{Corner, Said};
 use plane::direction::Direction;
@@ -18,83 +19,85 @@ impl<A> Survey<A> {
         ensures held { result.body ≡ body }
         ensures none { state result ≡ opened }
     {
-        let blank = Corner {
-            at: Point { x: 0, y: 0 },
-            asked: Direction::east(),
-        };
         Survey {
             body,
-            corners: [blank; 256],
-            count: 0,
+            corners: ArrayVec::new(),
             settled: 0,
             probes: 0,
         }
     }
 
     // Whether something is found and every edge is settled.
+    #[tactic(auto, using(crate::proofs::Marks::closed_marked))]
     pub(crate) fn is_closed(&self) -> bool
         ensures { result ≡ closed (state self.now) }
     {
-        self.count > 0 && self.settled == self.count
+        !self.corners.is_empty() && self.settled == self.corners.len()
     }
 
     // Where the first open edge ends.
+    #[tactic(auto, using(crate::proofs::Marks::edge_end_marked))]
     fn edge_end(&self) -> Point
-        requires { self.now.settled < self.now.count }
+        requires { self.now.settled < length self.now.corners.items }
         ensures { result ≡ edge_end (state self.now).found self.now.settled }
     {
-        let next = self.settled + 1;
-        if next < self.count {
-            self.corners[next].at
-        } else {
-            self.corners[0].at
+        match self.corners.get(self.settled + 1) {
+            Some(corner) => corner.at,
+            None => self.corners[0].at,
         }
     }
 
     // What the next probe asks.
+    #[tactic(auto, using(crate::proofs::Marks::closed_marked, crate::proofs::Marks::question_single))]
     fn question(&self) -> Result<Direction, Fault>
         requires { closed (state self.now) ≡ false }
         ensures { Makes (question (state self.now).found) result }
     {
-        if self.count == 0 {
-            return Ok(Direction::east());
+        match self.corners.as_slice() {
+            [] => Ok(Direction::east()),
+            [_] => Ok(Direction::west()),
+            corners => normal(corners[self.settled].at, self.edge_end()),
         }
-        if self.count == 1 {
-            return Ok(Direction::west());
-        }
-        normal(self.corners[self.settled].at, self.edge_end())
     }
 
     // Takes in a corner at place i, or refuses where there is no room.
+    #[tactic(auto, using(crate::proofs::Marks::length_marked, crate::proofs::Marks::inserted_marked))]
     fn take_in(&mut self, i: usize, corner: Corner) -> Result<Said, Fault>
         requires after { self.old.settled ≤ i }
-        requires within { i ≤ self.old.count }
+        requires within { i ≤ length self.old.corners.items }
         ensures held { self.new.body ≡ self.old.body }
         ensures says { result ≡ (take_in (state self.old) i (found_by corner) corner.at).says }
         ensures leaves { state self.new ≡ (take_in (state self.old) i (found_by corner) corner.at).leaves }
+        ensures still { OnErr result (state self.new ≡ state self.old) }
     {
-        if self.count >= 256 {
-            return Err(Fault::new(Cause::TooManyCorners, 0));
-        }
-        insert_at(&mut self.corners, self.count, i, corner);
-        self.count += 1;
+        self.corners
+            .try_insert(i, corner)
+            .map_err(|_| Fault::new(Cause::TooManyCorners, 0))?;
         self.probes += 1;
         Ok(Said::Corner)
     }
 
-    // Settles the first open edge.
-    fn settle(&mut self)
-        requires { self.old.settled < self.old.count }
+    // Takes in an answer about the first open edge: its end settles it, and any other point is a corner.
+    #[tactic(auto, using(crate::proofs::Marks::settle_marked, crate::proofs::Steps::same_told))]
+    fn about_edge(&mut self, asked: Direction, at: Point) -> Result<Said, Fault>
+        requires { self.old.settled < length self.old.corners.items }
         ensures held { self.new.body ≡ self.old.body }
-        ensures leaves { state self.new ≡ (settling (state self.old) self.old.settled).leaves }
+        ensures says { result ≡ (about_edge (state self.old) self.old.settled (vector asked) at).says }
+        ensures leaves { state self.new ≡ (about_edge (state self.old) self.old.settled (vector asked) at).leaves }
+        ensures still { OnErr result (state self.new ≡ state self.old) }
     {
-        self.settled += 1;
-        self.probes += 1;
+        if at == self.edge_end() {
+            self.settled += 1;
+            self.probes += 1;
+            return Ok(Said::Settled);
+        }
+        self.take_in(self.settled + 1, Corner { at, asked })
     }
 }
 
 impl<A: Body> Survey<A> {
     // Asks the body once, and takes a corner in or settles an edge; on a closed survey it asks nothing.
+    #[tactic(auto, using(crate::proofs::Marks::closed_marked))]
     pub fn probe(&mut self) -> Result<Said, Fault>
         ensures held { self.new.body ≡ self.old.body }
         ensures says { result ≡ (probed (A.Body.meaning self.old.body) (state self.old)).says }
@@ -106,13 +109,9 @@ impl<A: Body> Survey<A> {
         }
         let asked = self.question()?;
         let at = self.body.support(asked)?;
-        if self.count == 0 {
+        if self.corners.is_empty() {
             return self.take_in(0, Corner { at, asked });
         }
-        if at == self.edge_end() {
-            self.settle();
-            return Ok(Said::Settled);
-        }
-        self.take_in(self.settled + 1, Corner { at, asked })
+        self.about_edge(asked, at)
     }
 }

@@ -8,6 +8,7 @@ use plane::point::Point;
 
 impl<A: Body> Survey<A> {
     // Makes one call; an outline is read into the first slots of the buffer.
+    #[tactic(auto, using(std::proofs::lemmas::List::take_min, std::proofs::lemmas::List::drop_min))]
     fn make(&mut self, call: Call, buffer: &mut [Point]) -> Told
         ensures held { self.new.body ≡ self.old.body }
         ensures tells { telling result ≡ (made (A.Body.meaning self.old.body) (stand self.old buffer.old) call).tells }
@@ -20,7 +21,7 @@ impl<A: Body> Survey<A> {
             Call::Corner(i) => Told::Corner(self.corner(i)),
             Call::Outline(slots) => {
                 let n = slots.min(buffer.len());
-                Told::Outline(self.outline(&mut buffer[0..n]))
+                Told::Outline(self.outline(&mut buffer[..n]))
             }
         }
     }
@@ -32,10 +33,8 @@ impl<A: Body> Survey<A> {
         ensures tells { told_of log.new ≡ each_told (tells_from (A.Body.meaning self.old.body) (stand self.old buffer.old) (calls_of log.old)) }
         ensures leaves { stand self.new buffer.new ≡ leaves_from (A.Body.meaning self.old.body) (stand self.old buffer.old) (calls_of log.old) }
     {
-        for i in 0..log.len() {
-            let call = log[i].call;
-            let told = Some(self.make(call, buffer));
-            log[i] = Entry { call, told };
+        for entry in log.iter_mut() {
+            entry.told = Some(self.make(entry.call, buffer));
         }
     }
 }

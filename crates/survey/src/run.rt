@@ -15,12 +15,10 @@ impl<A: Body> Survey<A> {
     {
         for made in 0..budget {
             match self.probe() {
-                Ok(said) => match said {
-                    Said::Corner | Said::Settled => {}
-                    Said::Closed => return Ran {
-                        made,
-                        ended: Ended::Closed,
-                    },
+                Ok(Said::Corner | Said::Settled) => {}
+                Ok(Said::Closed) => return Ran {
+                    made,
+                    ended: Ended::Closed,
                 },
                 Err(fault) => return Ran {
                     made,

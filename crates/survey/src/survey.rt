@@ -1,17 +1,20 @@
-ghost use Rattle.std.specs.Prelude.{◌≡◌, ◌+◌, ◌≤◌, length};
+ghost use Rattle.std.specs.Prelude.{◌≡◌, ◌+◌, ◌≤◌};
+ghost use Rattle.arrayvec.specs.ArrayVec.{array_vec_len};
 
+use arrayvec::ArrayVec;
 use calls::Corner;
+
+// How many corners a survey has room for.
+pub const MOST: usize = 256;
 
 // A survey of a body: its corners so far in outline order, of whose edges the first `settled` are settled.
 #[derive(Drop)]
 pub struct Survey<A> {
     pub(crate) body: A,
-    pub(crate) corners: [Corner; 256],
-    pub(crate) count: usize,
+    pub(crate) corners: ArrayVec<Corner, MOST>,
     pub(crate) settled: usize,
     pub(crate) probes: u32,
-    ghost slots: { length corners ≡ 256 },
-    ghost few: { count ≤ 256 },
-    ghost within: { settled ≤ count },
-    ghost counted: { probes ≡ count + settled },
+    ghost few: { array_vec_len corners ≤ 256 },
+    ghost within: { settled ≤ array_vec_len corners },
+    ghost counted: { probes ≡ array_vec_len corners + settled },
 }

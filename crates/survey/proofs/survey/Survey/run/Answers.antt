@@ -1,39 +1,29 @@
 -- One turn of a run: it goes on, or ends closed or refused.
-use Rattle.std.proofs.Common.{Ok, Err, sym, refl, ap, ◌∙◌}
-use Rattle.calls.specs.declared.Said.TheVariants.{Closed}
-use Rattle.calls.specs.declared.Ended.TheVariants as ended
-use Rattle.survey.specs.Rules.{probe}
-use Rattle.survey.specs.State.{state}
-use Rattle.survey.proofs.Runs.{counts_one, goes_on, stops}
+use Rattle.std.proofs.Common.{◌≡◌, ◌⊎◌, Ok, sym, ap, ◌∙◌, arith}
+use Rattle.calls.specs.declared.Said.TheVariants.{Corner, Settled}
+use Rattle.survey.specs.Rules.{Run}
+use Rattle.survey.proofs.Runs.{turned, counted}
 use Rattle.survey.proofs.survey.Survey.run.Goals as goal
 
-pub returns-in-Closed : goal.returns-in-Closed
-returns-in-Closed g c =
-    let m = g.A.Body.meaning c.args.self.now.body in
-    let s = state c.loop-made.self in
-    let same = ap g.A.Body.meaning c.loop-made.invariant.0 in
-    let t = c.in-Ok.ensures in
-    let says = sym (ap Ok c.in-Closed.is) ∙ t.says ∙ ap (λ n. (probe n s).says) same in
-    let out = stops m c.args.budget c.loop-made.made s (Ok Closed) says ended.Closed (state c.probe.new.self) _ c.loop-made-test.true (λ rest. refl) (t.leaves ∙ ap (λ n. (probe n s).leaves) same) c.loop-made.invariant.1 in
-    record { held = t.held ∙ c.loop-made.invariant.0; tells = out.0; leaves = out.1 }
+pub returns-in-Ok-Closed : goal.returns-in-Ok-Closed
+returns-in-Ok-Closed g c =
+    let t = c.in-Ok-Closed.ensures in
+    let held = c.loop-made.invariant.held in
+    let says = sym (ap Ok c.in-Ok-Closed.field-0-is) ∙ t.says in
+    let w = turned _ _ _ _ _ _ _ _ (ap g.A.Body.meaning held) says t.leaves c.loop-made-test.true c.loop-made.invariant.whole in
+    record { held = t.held ∙ held; tells = ap (λ (r : Run). r.tells) w; leaves = ap (λ (r : Run). r.leaves) w }
 
 pub returns-in-Err : goal.returns-in-Err
 returns-in-Err g c =
-    let m = g.A.Body.meaning c.args.self.now.body in
-    let s = state c.loop-made.self in
-    let same = ap g.A.Body.meaning c.loop-made.invariant.0 in
     let t = c.in-Err.ensures in
-    let says = t.says ∙ ap (λ n. (probe n s).says) same in
-    let out = stops m c.args.budget c.loop-made.made s (Err c.in-Err.fault) says (ended.Refused c.in-Err.fault) (state c.probe.new.self) _ c.loop-made-test.true (λ rest. refl) (t.leaves ∙ ap (λ n. (probe n s).leaves) same) c.loop-made.invariant.1 in
-    record { held = t.held ∙ c.loop-made.invariant.0; tells = out.0; leaves = out.1 }
+    let held = c.loop-made.invariant.held in
+    let w = turned _ _ _ _ _ _ _ _ (ap g.A.Body.meaning held) t.says t.leaves c.loop-made-test.true c.loop-made.invariant.whole in
+    record { held = t.held ∙ held; tells = ap (λ (r : Run). r.tells) w; leaves = ap (λ (r : Run). r.leaves) w }
 
 pub loop-made-preserved : goal.loop-made-preserved
 loop-made-preserved g c =
-    let m = g.A.Body.meaning c.args.self.now.body in
-    let s = state c.loop-made.self in
-    let same = ap g.A.Body.meaning c.loop-made.invariant.0 in
-    let t = c.in-Ok.ensures in (
-      t.held ∙ c.loop-made.invariant.0,
-      goes_on m c.args.budget c.loop-made.made s (Ok c.in-Ok.said) (t.says ∙ ap (λ n. (probe n s).says) same) (state c.probe.new.self) _ c.loop-made-test.true
-          (counts_one c.in-Ok.said c.in-Corner.is s) (t.leaves ∙ ap (λ n. (probe n s).leaves) same) c.loop-made.invariant.1,
-    )
+    let t = c.in-Ok-Corner.ensures in
+    let held = c.loop-made.invariant.held in
+    let one : (c.in-Ok-Corner.field-0 ≡ Corner) ⊎ (c.in-Ok-Corner.field-0 ≡ Settled) = grind arith in
+    let w = turned _ _ _ _ _ _ _ _ (ap g.A.Body.meaning held) t.says t.leaves c.loop-made-test.true c.loop-made.invariant.whole in
+    record { held = t.held ∙ held; whole = counted _ _ _ _ _ _ one w }

@@ -7,5 +7,8 @@ use Rattle.survey.proofs.survey.Survey.run.Given as goal
 
 abbrev pub invariant-loop-made : goal.invariant-loop-made
 invariant-loop-made g l =
-    (l.self.body ≡ l.initial.self.body)
-    × (run (g.A.Body.meaning l.initial.self.body) l.budget (state l.initial.self) ≡ after l.made (run (g.A.Body.meaning l.initial.self.body) (l.budget - l.made) (state l.self)))
+    let m = g.A.Body.meaning l.initial.self.body in
+    record {
+      held : l.self.body ≡ l.initial.self.body;
+      whole : run m l.budget (state l.initial.self) ≡ after l.made (run m (l.budget - l.made) (state l.self));
+    }
