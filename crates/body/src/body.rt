@@ -10,8 +10,6 @@ use plane::point::Point;
 pub trait Body {
     ghost meaning: { Self → Meaning };
 
-    ghost bounded: { (b : Self) → Bounded (meaning b) };
-
     // The reach of a sound body, or the fault of a faulty one.
     fn verdict(&self) -> Result<u32, Fault>
         ensures { result ≡ (meaning self.now).verdict };
@@ -19,4 +17,7 @@ pub trait Body {
     // The support point in direction u, or the fault of a faulty body.
     fn support(&self, u: Direction) -> Result<Point, Fault>
         ensures { Answers (meaning self.now) (vector u) result };
+
+    // A sound body keeps its bounds.
+    ghost bounded: { (b : Self) → Bounded (meaning b) };
 }

@@ -77,7 +77,7 @@ impl<A, T> Turned<A, T> {
 impl<A: Body, T: Turn> Body for Turned<A, T> {
     ghost meaning = { λ m. turned T.turn (A.Body.meaning m.part) };
 
-    ghost bounded = { λ m. T.Turn.bounded (A.Body.bounded m.part) };
+    ghost bounded = { λ m. T.Turn.bounded (A.Body.meaning m.part) (A.Body.bounded m.part) };
 
     fn verdict(&self) -> Result<u32, Fault> {
         Ok(self.part.verdict().map_err(PartFault)?)

@@ -16,9 +16,6 @@ pub(crate) trait Turn {
 
     ghost back: { Point → Point };
 
-    // A body that is turned keeps its bounds.
-    ghost bounded: { {m : Meaning} → Bounded m → Bounded (turned turn m) };
-
     fn turn(p: Point) -> Point
         requires { Within 1000000 p }
         ensures { result ≡ turn p };
@@ -28,6 +25,9 @@ pub(crate) trait Turn {
 
     // What lies farthest in direction u lay farthest in direction back u before the turn.
     ghost carries: { (u : Point) → Carries turn (back u) u };
+
+    // A body that is turned keeps its bounds.
+    ghost bounded: { (m : Meaning) → Bounded m → Bounded (turned turn m) };
 }
 
 // A half turn.
@@ -38,7 +38,7 @@ impl Turn for HalfTurn {
 
     ghost back = { negate };
 
-    ghost bounded = { halved_bounded };
+    ghost bounded = { λ m b. halved_bounded b };
 
     ghost carries = { λ u. half_carries (negate u) u refl };
 
@@ -59,7 +59,7 @@ impl Turn for QuarterTurn {
 
     ghost back = { λ u. negate (perp u) };
 
-    ghost bounded = { quartered_bounded };
+    ghost bounded = { λ m b. quartered_bounded b };
 
     ghost carries = { λ u. quarter_carries (negate (perp u)) u refl };
 

@@ -5,7 +5,7 @@ use Rattle.layers.proofs.answers.move_answer.Goals as goal
 
 pub plus-requires : goal.plus-requires
 plus-requires g c =
-    near (moved_bounded c.args.by (g.A.Body.bounded c.args.part.now))
+    near (moved_bounded c.args.by (g.met.A.Body.bounded c.args.part.now))
     (moved_told c.args.by c.requires (told _ c.in_ok-p.ensures.cases c.support.ensures))
 
 pub returns : goal.returns

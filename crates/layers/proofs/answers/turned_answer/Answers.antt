@@ -5,7 +5,7 @@ use Rattle.layers.proofs.answers.turned_answer.Goals as goal
 
 pub turn-requires : goal.turn-requires
 turn-requires g c =
-    near (g.A.Body.bounded c.args.part.now) (told _ c.in_ok-p.ensures.cases c.support.ensures)
+    near (g.met.A.Body.bounded c.args.part.now) (told _ c.in_ok-p.ensures.cases c.support.ensures)
 
 pub returns : goal.returns
 returns g c =
