@@ -7,8 +7,8 @@ use Rattle.plane.specs.Plane.{point, at, origin, same}
 use Rattle.body.specs.Meaning.{Meaning, answer}
 use Rattle.body.specs.Ring.{ring_meaning}
 use Rattle.body.specs.Set.{set_meaning}
-use Rattle.layers.specs.Layers.{moved, halved, quartered, summed, joined}
 use Rattle.body.specs.Zonotope.{zonotope_meaning}
+use Rattle.layers.specs.Layers.{moved, halved, quartered, summed, joined}
 use Rattle.survey.specs.Rules.{until_closed}
 use Rattle.runs.specs.Worked.{closes_as, refused_as}
 
