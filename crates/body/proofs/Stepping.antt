@@ -1,5 +1,5 @@
 -- The corners of a ring, and the walk over its steps.
-use Rattle.std.proofs.Common.{◌≡◌, ◌+◌, ◌-◌, ◌<◌, ◌≤◌, ◌||◌, ℕ, suc, cond, List, length, get_or, refl, ap, sym, ◌∙◌, add-one, arith}
+use Rattle.std.proofs.Common.{◌≡◌, ◌+◌, ◌-◌, ◌<◌, ◌≤◌, ◌||◌, ℕ, suc, cond, List, length, get_or, refl, ap, add-one, arith}
 use Rattle.std.proofs.lemmas.List.Recursion.{max_bounds}
 use Rattle.plane.specs.declared.point.Point.{Point}
 use Rattle.plane.specs.Plane.{origin, size}
@@ -14,7 +14,7 @@ one_less : (n i : ℕ) → i < n → n - i ≡ suc (n - (i + 1))
 one_less n i h = omega arith
 
 pub steps_more : (ps : List Point) (i : ℕ) → i < length ps → first_unlawful_from ps (length ps - i) i ≡ cond (unlawful ps i) i (first_unlawful_from ps (length ps - (i + 1)) (i + 1))
-steps_more ps i h = ap (λ (m : ℕ). first_unlawful_from ps m i) (one_less (length ps) i h) ∙ ap (λ (j : ℕ). cond (unlawful ps i) i (first_unlawful_from ps (length ps - (i + 1)) j)) (sym (add-one i))
+steps_more ps i h = rw (one_less (length ps) i h, add-one)
 
 pub rose_more : (ps : List Point) (i : ℕ) → rose ps (i + 1) ≡ (rose ps i || rises ps i)
 rose_more ps i = ap (rose ps) (add-one i)

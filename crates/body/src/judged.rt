@@ -43,6 +43,7 @@ impl<D: Plain> Clone for Judged<D> {
 }
 
 impl<D: Plain> Judged<D> {
+    // Judges the shape, here and never again.
     pub(crate) fn over(shape: D) -> Judged<D>
         ensures { result.shape ≡ shape }
     {

@@ -1,4 +1,4 @@
-ghost use Rattle.std.specs.Prelude.{◌≡◌, ◌<◌, length};
+ghost use Rattle.std.specs.Prelude.{◌≡◌, ◌<◌, ◌^◌, length};
 ghost use Rattle.plane.specs.Plane.{vector};
 ghost use Rattle.plane.specs.Support.{Supports};
 ghost use Rattle.body.specs.Meaning.{limited};
@@ -13,7 +13,7 @@ pub const LIMIT: u32 = 1_000_000;
 
 // This reach, or the fault at this place where it is beyond the limit.
 pub(crate) fn limited(place: usize, reach: u32) -> Result<u32, Fault>
-    requires { place < 4294967296 }
+    requires { place < 2 ^ 32 }
     ensures { result ≡ limited place reach }
 {
     if reach > LIMIT {
@@ -24,7 +24,7 @@ pub(crate) fn limited(place: usize, reach: u32) -> Result<u32, Fault>
 
 // The largest size of a point, or the fault at the first point beyond the limit.
 fn reach_of(points: &[Point]) -> Result<u32, Fault>
-    requires { length points.now < 4294967296 }
+    requires { length points.now < 2 ^ 32 }
     ensures { result ≡ reach_verdict points.now }
 {
     let mut reach = 0;

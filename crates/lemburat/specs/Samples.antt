@@ -4,8 +4,8 @@ use Rattle.plane.specs.declared.point.Point.{Point}
 use Rattle.plane.specs.Plane.{point, at, origin}
 use Rattle.body.specs.Meaning.{Meaning}
 use Rattle.body.specs.Ring.{ring_meaning}
-use Rattle.layers.specs.Layers.{moved, summed, joined}
 use Rattle.body.specs.Zonotope.{zonotope_meaning}
+use Rattle.layers.specs.Layers.{moved, summed, joined}
 
 -- a trolley of 1200 by 800, with a load that reaches out by 100, at a place
 abbrev pub trolley : Point → Meaning

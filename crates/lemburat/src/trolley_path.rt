@@ -1,15 +1,15 @@
 // A second sample: a loaded trolley on its way from one place to the next.
 ghost use Rattle.std.specs.Prelude.{◌≡◌, ◌≤◌, ◌++◌, length, drop, Ok};
 ghost use Rattle.body.specs.Ring.{ring_meaning};
-ghost use Rattle.layers.specs.Layers.{moved, summed};
 ghost use Rattle.body.specs.Zonotope.{zonotope_meaning};
+ghost use Rattle.layers.specs.Layers.{moved, summed};
 ghost use Rattle.lemburat.specs.Samples.{trolley, path_corners};
 
 use crate::outline;
 use body::ring::Ring;
+use body::zonotope::Zonotope;
 use calls::Counts;
 use layers::layers::{Join, Move, Sum};
-use body::zonotope::Zonotope;
 use plane::fault::Fault;
 use plane::point::{ORIGIN, Point};
 

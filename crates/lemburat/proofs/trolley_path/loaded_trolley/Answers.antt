@@ -1,7 +1,7 @@
 -- The zonotope and the ring are over the constants.
 use Rattle.body.specs.Ring.{ring_meaning}
-use Rattle.layers.specs.Layers.{moved, summed}
 use Rattle.body.specs.Zonotope.{zonotope_meaning}
+use Rattle.layers.specs.Layers.{moved, summed}
 use Rattle.lemburat.proofs.trolley_path.loaded_trolley.Goals as goal
 
 pub returns : goal.returns
