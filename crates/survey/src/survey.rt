@@ -1,5 +1,4 @@
-ghost use Rattle.std.specs.Prelude.{◌≡◌, ◌+◌, ◌≤◌};
-ghost use Rattle.arrayvec.specs.ArrayVec.{array_vec_len};
+ghost use Rattle.std.specs.Prelude.{◌≡◌, ◌+◌, ◌≤◌, length};
 
 use arrayvec::ArrayVec;
 use calls::Corner;
@@ -14,7 +13,7 @@ pub struct Survey<A> {
     pub(crate) corners: ArrayVec<Corner, MOST>,
     pub(crate) settled: usize,
     pub(crate) probes: u32,
-    ghost few: { array_vec_len corners ≤ 256 },
-    ghost within: { settled ≤ array_vec_len corners },
-    ghost counted: { probes ≡ array_vec_len corners + settled },
+    ghost few: { length corners.items ≤ 256 },
+    ghost within: { settled ≤ length corners.items },
+    ghost counted: { probes ≡ length corners.items + settled },
 }
