@@ -60,12 +60,14 @@ span_grows r s (g ∷ gs) h = span_grows (r + size g) (s + size g) gs (omega ari
 size_plus : (p q : Point) → size (plus p q) ≤ size p + size q
 size_plus p q = let w = plus_within (size p) (size q) p q (size_within p) (size_within q) in omega arith
 
--- p, with gs from place i on to come, stays within the limit: so does p plus the generator at place i, and so does what is chosen there
+-- p, with gs from place i on to come, stays within the limit: so do p and the generator at place i, and so does what is chosen there
 module _ (gs : List Point) (i : ℕ) (p : Point) (h : i < length gs) (low : span (size p) (drop i gs) ≤ 1000000) where
-  pub next_fits : size (plus p (get_or gs i origin)) ≤ 1000000
-  next_fits =
+  pub both_near : (size p ≤ 1000000) × (size (get_or gs i origin) ≤ 1000000)
+  both_near =
       let g = get_or gs i origin in
-      omega (arith, at_drop_more (span (size p)) gs i origin h, span_more (size p + size g) (drop (i + 1) gs), size_plus p g)
+      let more = at_drop_more (span (size p)) gs i origin h in
+      let grows = span_more (size p + size g) (drop (i + 1) gs) in
+      (omega arith, omega arith)
 
   pub next_low : (t : Bool) → span (size (cond t (plus p (get_or gs i origin)) p)) (drop (i + 1) gs) ≤ 1000000
   next_low t =

@@ -2,7 +2,7 @@
 
 pub mod body;
 mod judged;
-mod points;
+pub mod near;
 pub mod reach;
 pub mod ring;
 pub mod set;

@@ -4,7 +4,7 @@ ghost use Rattle.body.specs.RingKept.{ring_bounded};
 
 use crate::judged::{Judged, Plain};
 use crate::reach::{farthest, judge};
-use crate::steps::Steps;
+use crate::steps::first_unlawful;
 use plane::direction::Direction;
 use plane::fault::{Cause, Fault};
 use plane::point::Point;
@@ -28,10 +28,7 @@ impl Plain for Corners<'_> {
 
     fn judge(&self) -> Result<u32, Fault> {
         let reach = judge(self.corners, MOST)?;
-        let steps = Steps {
-            corners: self.corners,
-        };
-        match steps.first_unlawful() {
+        match first_unlawful(self.corners) {
             Some(step) => Err(Fault::new(Cause::UnlawfulStep, step as u32)),
             None => Ok(reach),
         }

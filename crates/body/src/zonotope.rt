@@ -4,7 +4,7 @@ ghost use Rattle.body.specs.Zonotope.{zonotope_meaning};
 ghost use Rattle.body.specs.ZonotopeKept.{zonotope_bounded};
 
 use crate::judged::{Judged, Plain};
-use crate::points::plus;
+use crate::near::Near;
 use crate::reach::limited;
 use plane::direction::Direction;
 use plane::fault::{Cause, Fault};
@@ -51,7 +51,8 @@ impl Plain for Choices<'_> {
     fn farthest(&self, u: Direction) -> Point {
         let mut best = self.base;
         for generator in self.generators {
-            best = u.farther(best, plus(best, *generator));
+            let more = Near { at: best }.plus(Near { at: *generator });
+            best = u.farther(best, more);
         }
         best
     }

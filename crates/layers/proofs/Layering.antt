@@ -1,18 +1,17 @@
 -- The answer of a sound layer, from the answers of its parts.
-use Rattle.std.proofs.Common.{◌≡◌, ℕ, zero, suc, ◌<◌, max, cond, List, [], ◌∷◌, map, length, get_or, Ok, Err, Result, sym, refl, ap, subst, arith}
+use Rattle.std.proofs.Common.{◌≡◌, ℕ, zero, suc, ◌<◌, ◌≤◌, max, cond, List, [], ◌∷◌, map, length, get_or, Ok, Err, Result, sym, refl, ap, subst, arith}
 use Rattle.std.specs.List.{ContainsAt}
 use Rattle.std.specs.Result.{IsOk, MatchResult}
 use Rattle.std.proofs.ByRecursion.{all-has, has_append_left, has_append_right}
 use Rattle.std.proofs.lemmas.Bool.{false≢true}
 use Rattle.plane.specs.declared.fault.Fault.{Fault}
 use Rattle.plane.specs.declared.point.Point.{Point}
-use Rattle.plane.specs.Plane.{plus}
+use Rattle.plane.specs.Plane.{size, plus}
 use Rattle.plane.specs.Support.{NotBeyond, Supports, beyond}
 use Rattle.plane.proofs.Carrying.{Carries, map_supports, plus_carries, not_beyond_plus, has_map, append_supports}
 use Rattle.layers.specs.declared.part.PartFault.{PartFault}
 use Rattle.layers.specs.Layers.{over, moved, turned, sums, summed, joined}
 use Rattle.layers.specs.LayersKept.{all_sums}
-use Rattle.body.specs.Bounds.{wider}
 use Rattle.body.specs.Meaning.{Verdict, Meaning, Within, BoundedBy, Bounded, AnswersBy, Answers}
 
 -- a body with this meaning is sound, and p is its support point in direction u
@@ -37,10 +36,11 @@ answers {m} {u} {p} {q} t e = subst (λ (v : Verdict). AnswersBy u v m.points (O
 
 -- ---- what is told stays within the limit
 
-pub near : {m : Meaning} {u p : Point} → Bounded m → Told m u p → Within 1000000 p
+pub near : {m : Meaning} {u p : Point} → Bounded m → Told m u p → size p ≤ 1000000
 near {m} {u} {p} b t =
     let w = subst (λ (v : Verdict). BoundedBy v m.points) t.sound b.bounds in
-    wider t.reach 1000000 w.0 p (all-has (Within t.reach) m.points p w.1 t.supports.listed)
+    let k = all-has (Within t.reach) m.points p w.1 t.supports.listed in
+    omega (arith, w.0, k.0, k.1)
 
 -- ---- a layer over one part
 

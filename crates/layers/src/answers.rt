@@ -5,9 +5,9 @@ ghost use Rattle.layers.specs.Layers.{moved, turned, summed, joined};
 ghost use Rattle.body.specs.Meaning.{Answers};
 
 use crate::part::PartFault;
-use crate::points::plus;
 use crate::turn::Turn;
 use body::body::Body;
+use body::near::Near;
 use plane::direction::Direction;
 use plane::fault::Fault;
 use plane::point::Point;
@@ -18,7 +18,7 @@ pub(crate) fn move_answer<A: Body>(part: &A, by: Point, u: Direction) -> Result<
     ensures { Answers (moved by (A.Body.meaning part.now)) (vector u) result }
 {
     let p = part.support(u).map_err(PartFault)?;
-    Ok(plus(p, by))
+    Ok(Near { at: p }.plus(Near { at: by }))
 }
 
 // The part's answer in the direction before the turn, turned.
@@ -26,7 +26,7 @@ pub(crate) fn turned_answer<A: Body, T: Turn>(part: &A, u: Direction) -> Result<
     ensures { Answers (turned T.turn (A.Body.meaning part.now)) (vector u) result }
 {
     let p = part.support(T::back(u)).map_err(PartFault)?;
-    Ok(T::turn(p))
+    Ok(T::turn(Near { at: p }))
 }
 
 // The sum of both answers in direction u; the sum is sound.
@@ -40,7 +40,7 @@ pub(crate) fn sum_answer<A: Body, B: Body>(
 {
     let p = left.support(u).map_err(PartFault)?;
     let q = right.support(u).map_err(PartFault)?;
-    Ok(plus(p, q))
+    Ok(Near { at: p }.plus(Near { at: q }))
 }
 
 // The farther of both answers in direction u.

@@ -3,5 +3,4 @@
 mod answers;
 pub mod layers;
 mod part;
-mod points;
 mod turn;

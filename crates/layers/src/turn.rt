@@ -5,8 +5,9 @@ ghost use Rattle.plane.specs.Plane.{vector, negate, perp};
 ghost use Rattle.plane.proofs.Carrying.{Carries, half_carries, quarter_carries};
 ghost use Rattle.layers.specs.Layers.{turned};
 ghost use Rattle.layers.specs.LayersKept.{halved_bounded, quartered_bounded};
-ghost use Rattle.body.specs.Meaning.{Meaning, Within, Bounded};
+ghost use Rattle.body.specs.Meaning.{Meaning, Bounded};
 
+use body::near::Near;
 use plane::direction::Direction;
 use plane::point::Point;
 
@@ -16,9 +17,8 @@ pub(crate) trait Turn {
 
     ghost back: { Point → Point };
 
-    fn turn(p: Point) -> Point
-        requires { Within 1000000 p }
-        ensures { result ≡ turn p };
+    fn turn(p: Near) -> Point
+        ensures { result ≡ turn p.at };
 
     fn back(u: Direction) -> Direction
         ensures { vector result ≡ back (vector u) };
@@ -42,8 +42,11 @@ impl Turn for HalfTurn {
 
     ghost carries = { λ u. half_carries (negate u) u refl };
 
-    fn turn(p: Point) -> Point {
-        Point { x: -p.x, y: -p.y }
+    fn turn(p: Near) -> Point {
+        Point {
+            x: -p.at.x,
+            y: -p.at.y,
+        }
     }
 
     fn back(u: Direction) -> Direction {
@@ -63,8 +66,11 @@ impl Turn for QuarterTurn {
 
     ghost carries = { λ u. quarter_carries (negate (perp u)) u refl };
 
-    fn turn(p: Point) -> Point {
-        Point { x: -p.y, y: p.x }
+    fn turn(p: Near) -> Point {
+        Point {
+            x: -p.at.y,
+            y: p.at.x,
+        }
     }
 
     fn back(u: Direction) -> Direction {

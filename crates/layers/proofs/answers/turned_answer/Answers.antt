@@ -3,9 +3,8 @@ use Rattle.plane.specs.Plane.{vector}
 use Rattle.layers.proofs.Layering.{told, answers, near, turned_told}
 use Rattle.layers.proofs.answers.turned_answer.Goals as goal
 
-pub turn-requires : goal.turn-requires
-turn-requires g c =
-    near (g.met.A.Body.bounded c.args.part.now) (told _ c.in_ok-p.ensures.cases c.support.ensures)
+pub invariant_of-turn : goal.invariant_of-turn
+invariant_of-turn g c = record { near = near (g.met.A.Body.bounded c.args.part.now) (told _ c.in_ok-p.ensures.cases c.support.ensures) }
 
 pub returns : goal.returns
 returns g c =

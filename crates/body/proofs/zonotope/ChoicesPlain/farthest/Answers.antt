@@ -4,11 +4,14 @@ use Rattle.std.proofs.lemmas.List.{at_drop_more, at_drop_all}
 use Rattle.plane.specs.Plane.{origin, plus, vector}
 use Rattle.plane.specs.Support.{Supports, beyond}
 use Rattle.body.specs.Zonotope.{choices}
-use Rattle.body.proofs.Spans.{picked, picked_supports, next_fits, next_low}
+use Rattle.body.proofs.Spans.{picked, picked_supports, both_near, next_low}
 use Rattle.body.proofs.zonotope.ChoicesPlain.farthest.Goals as goal
 
-pub plus-requires : goal.plus-requires
-plus-requires c = next_fits c.args.self.now.generators.now c.loop-generator.generator-index c.loop-generator.best c.loop-generator-test.true c.loop-generator.invariant.1
+pub invariant_of-plus : goal.invariant_of-plus
+invariant_of-plus c = record { near = (both_near c.args.self.now.generators.now c.loop-generator.generator-index c.loop-generator.best c.loop-generator-test.true c.loop-generator.invariant.1).0 }
+
+pub invariant_of-plus-in-loop-generator : goal.invariant_of-plus-in-loop-generator
+invariant_of-plus-in-loop-generator c = record { near = (both_near c.args.self.now.generators.now c.loop-generator.generator-index c.loop-generator.best c.loop-generator-test.true c.loop-generator.invariant.1).1 }
 
 pub loop-generator-preserved : goal.loop-generator-preserved
 loop-generator-preserved c =
@@ -18,7 +21,7 @@ loop-generator-preserved c =
     let p = c.loop-generator.best in
     let t = beyond u p (plus p (get_or gs i origin)) in
     let more = at_drop_more (picked u p) gs i origin c.loop-generator-test.true in
-    rw (c.farther-best.ensures, c.plus.ensures) (sym more ∙ c.loop-generator.invariant.0, next_low gs i p c.loop-generator-test.true c.loop-generator.invariant.1 t)
+    rw (c.farther-best.ensures, c.plus-more.ensures) (sym more ∙ c.loop-generator.invariant.0, next_low gs i p c.loop-generator-test.true c.loop-generator.invariant.1 t)
 
 pub returns : goal.returns
 returns c =

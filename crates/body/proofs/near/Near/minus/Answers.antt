@@ -1,8 +1,8 @@
--- A small sum of two numbers of 32 bits is exact.
+-- A difference of two small numbers is exact.
 use Rattle.std.proofs.Common.{arith}
 use Rattle.std.proofs.lemmas.Int.{ints}
 use Rattle.plane.proofs.Points.{point_same}
-use Rattle.layers.proofs.points.plus.Goals as goal
+use Rattle.body.proofs.near.Near.minus.Goals as goal
 
 pub returns : goal.returns
 returns c = point_same (omega (arith, ints)) (omega (arith, ints))
