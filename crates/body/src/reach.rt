@@ -17,6 +17,7 @@ pub(crate) fn limited(place: usize, reach: u32) -> Result<u32, Fault>
     ensures { result ≡ limited place reach }
 {
     if reach > LIMIT {
+        // `as`: the contract bounds the place, and `try_from` would leave an arm that is never taken.
         return Err(Fault::new(Cause::BeyondReach, place as u32));
     }
     Ok(reach)
@@ -41,6 +42,7 @@ pub(crate) fn judge(points: &[Point], most: u32) -> Result<u32, Fault>
     if points.is_empty() {
         return Err(Fault::new(Cause::NoPoints, 0));
     }
+    // `as`: no `From` leads from 32 bits to the width of a length.
     if points.len() > most as usize {
         return Err(Fault::new(Cause::TooManyPoints, most));
     }

@@ -29,6 +29,7 @@ impl Plain for Corners<'_> {
     fn judge(&self) -> Result<u32, Fault> {
         let reach = judge(self.corners, MOST)?;
         match first_unlawful(self.corners) {
+            // `as`: a ring's steps are few, and `try_from` would leave an arm that is never taken.
             Some(step) => Err(Fault::new(Cause::UnlawfulStep, step as u32)),
             None => Ok(reach),
         }

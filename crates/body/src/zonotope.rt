@@ -37,6 +37,7 @@ impl Plain for Choices<'_> {
     ghost bounds = { λ z. zonotope_bounded z.base z.generators.now };
 
     fn judge(&self) -> Result<u32, Fault> {
+        // `as`: no `From` leads from 32 bits to the width of a length.
         if self.generators.len() > MOST as usize {
             return Err(Fault::new(Cause::TooManyPoints, MOST));
         }

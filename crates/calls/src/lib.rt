@@ -1,15 +1,13 @@
 #![tactic(auto)]
 
 // The calls on a survey and what they tell, as values.
-ghost use Rattle.std.specs.Prelude.{Some};
-ghost use Rattle.calls.specs.Text.{counts_text};
-
-ghost use Rattle.std.specs.Prelude.{◌≡◌};
+ghost use Rattle.std.specs.Prelude.{◌≡◌, Some};
 ghost use Rattle.plane.specs.Plane.{origin, vector, east};
+ghost use Rattle.calls.specs.Text.{counts_text};
 
 use plane::direction::Direction;
 use plane::fault::Fault;
-use plane::point::Point;
+use plane::point::{ORIGIN, Point};
 use std::fmt;
 
 // A corner, with the direction that found it.
@@ -25,7 +23,7 @@ impl Default for Corner {
 
     fn default() -> Corner {
         Corner {
-            at: Point { x: 0, y: 0 },
+            at: ORIGIN,
             asked: Direction::east(),
         }
     }

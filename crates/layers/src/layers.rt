@@ -32,7 +32,7 @@ pub type Half<A> = Turned<A, HalfTurn>;
 // The part after a quarter turn to the left.
 pub type Quarter<A> = Turned<A, QuarterTurn>;
 
-// All sums of a point of one part and a point of the other.
+// All sums of a point of one part and a point of the other. A sum and a join share no more than that both parts are asked.
 #[derive(Drop)]
 pub struct Sum<A, B> {
     pub left: A,

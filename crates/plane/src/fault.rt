@@ -31,6 +31,7 @@ impl Cause {
     pub fn number(self) -> u8
         ensures { result ≡ number self }
     {
+        // `as`: the one way from a variant to the number that it is declared with.
         self as u8
     }
 }

@@ -19,6 +19,7 @@ impl Direction {
         if x < -LIMIT || x > LIMIT || y < -LIMIT || y > LIMIT {
             return Err(Fault::new(Cause::NoDirection, 0));
         }
+        // `as`: both are tested, and `try_from` would leave arms that are never taken.
         Ok(Direction {
             x: x as i32,
             y: y as i32,

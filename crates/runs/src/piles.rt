@@ -1,5 +1,5 @@
 use crate::counted::{Asked, Counted};
-use crate::expect::{outlines, points, refuses};
+use crate::expect::{faulty, outlines, points, refuses};
 use crate::faulty::Faulty;
 use body::body::Body;
 use body::ring::Ring;
@@ -8,13 +8,11 @@ use body::zonotope::Zonotope;
 use layers::layers::{Half, Join, Move, Quarter, Sum};
 use plane::direction::Direction;
 use plane::fault::{Cause, Fault};
-use plane::point::Point;
+use plane::point::{ORIGIN, Point};
 use std::fmt::Debug;
 use std::process::Abort;
 use std::test::Fail;
 use survey::survey::Survey;
-
-const ORIGIN: Point = Point { x: 0, y: 0 };
 
 // A unit square as a zonotope: above it, (0, 1) and (1, 1) tie, and perp(0, 1) = (-1, 0) prefers (0, 1).
 #[test]
@@ -33,31 +31,22 @@ fn zonotope(rt: HostRuntime) -> Result<(), Fail> {
     outlines(&rt, least, &points![0, 0; -1_000_000, 0])
 }
 
-fn overruns(rt: &impl Abort, base: Point, generators: &[Point], count: u32) {
-    refuses(
-        rt,
-        Zonotope::new(base, generators),
-        Fault::new(Cause::BeyondReach, count),
-    );
-}
-
 #[test]
-fn faulty_zonotopes(rt: HostRuntime) -> Result<(), Fail> {
+fn faulty_zonotopes(rt: HostRuntime) {
     let many = [Point { x: i32::MIN, y: 0 }; 65];
-    refuses(
+    let wide = Zonotope::new(ORIGIN, &many);
+    faulty(&rt, wide, Cause::TooManyPoints, 64);
+    let far = Zonotope::new(Point { x: 0, y: i32::MIN }, &many[0..64]);
+    faulty(&rt, far, Cause::BeyondReach, 0);
+    let first = Zonotope::new(ORIGIN, &many[0..64]);
+    faulty(&rt, first, Cause::BeyondReach, 1);
+    let generators = points![600_000, 0; 0, -400_000; 0, 0; 1, 0; 1, 0];
+    faulty(
         &rt,
-        Zonotope::new(ORIGIN, &many),
-        Fault::new(Cause::TooManyPoints, 64),
-    );
-    overruns(&rt, Point { x: 0, y: i32::MIN }, &many[0..64], 0);
-    overruns(&rt, ORIGIN, &many[0..64], 1);
-    overruns(
-        &rt,
-        ORIGIN,
-        &points![600_000, 0; 0, -400_000; 0, 0; 1, 0; 1, 0],
+        Zonotope::new(ORIGIN, &generators),
+        Cause::BeyondReach,
         4,
     );
-    Ok(())
 }
 
 // Half a turn takes (3, 1) to (-3, -1): its end to the right is (0, 0), its end to the left (-3, -1).

@@ -13,6 +13,7 @@ impl<A: Body> Survey<A> {
         ensures tells { result ≡ (ran (A.Body.meaning self.old.body) budget (state self.old)).tells }
         ensures leaves { state self.new ≡ (ran (A.Body.meaning self.old.body) budget (state self.old)).leaves }
     {
+        // Counts probes; no list is walked.
         for made in 0..budget {
             match self.probe() {
                 Ok(Said::Corner | Said::Settled) => {}
