@@ -24,7 +24,7 @@ pub(crate) fn limited(place: usize, reach: u32) -> Result<u32, Fault>
 }
 
 // The largest size of a point, or the fault at the first point beyond the limit.
-fn reach_of(points: &[Point]) -> Result<u32, Fault>
+fn reach_verdict(points: &[Point]) -> Result<u32, Fault>
     requires { length points.now < 2 ^ 32 }
     ensures { result ≡ reach_verdict points.now }
 {
@@ -46,7 +46,7 @@ pub(crate) fn judge(points: &[Point], most: u32) -> Result<u32, Fault>
     if points.len() > most as usize {
         return Err(Fault::new(Cause::TooManyPoints, most));
     }
-    reach_of(points)
+    reach_verdict(points)
 }
 
 // The support point of a list in direction u, in one walk over it.

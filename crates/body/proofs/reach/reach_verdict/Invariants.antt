@@ -5,7 +5,7 @@ use Rattle.plane.specs.declared.point.Point.{Point}
 use Rattle.plane.specs.Fault.{fault}
 use Rattle.body.specs.Meaning.{Verdict}
 use Rattle.body.specs.Set.{reach, first_beyond, reach_verdict}
-use Rattle.body.proofs.reach.reach_of.Given as goal
+use Rattle.body.proofs.reach.reach_verdict.Given as goal
 
 -- the verdict of the points that are left from this place on, after a reach of r
 abbrev left : ℕ → ℕ → List Point → Verdict
