@@ -34,15 +34,25 @@ def grep(pattern):
             yield f'{path.relative_to(ROOT)}:{line}', text.splitlines()[line - 1].strip()
 
 
+def declared(body):
+    """Whether the item has no body: a `;` ends it before one begins."""
+    for line in body.splitlines():
+        if re.search(r'\{\s*$', line):
+            return False
+        if line.rstrip().endswith(';'):
+            return True
+    return False
+
+
 def items():
     """Each function, struct and impl: its place, its kind, its name and its text, comments and clauses apart."""
     for path in FILES:
         text = code(path.read_text())
         for m in re.finditer(r'^([ ]*)(?:pub(?:\(crate\))? )?(fn|struct|impl)\b', text, re.M):
             end = text.find('\n' + m.group(1) + '}', m.start())
-            if end < 0:
-                continue
             body = text[m.start():end]
+            if end < 0 or declared(body):
+                continue
             name = re.search(r'(?:fn|struct) (\w+)|impl(?:<[^{]*?>)? ([^{]+?) \{', body)
             yield f'{path.relative_to(ROOT)}:{line_of(text, m.start())}', m.group(2), (name.group(1) or name.group(2)) if name else '?', body
 
@@ -77,8 +87,10 @@ def facts():
         for clause in re.findall(r'requires \w* ?\{(.*)\}', body):
             fact = re.sub(r'\b[a-z_]+(\.(now|old|new|args))?\b(?=[\s)}]|$)', '_', clause.strip())
             stated.setdefault(fact, set()).add(f'{place} {name}')
+        for fact in re.findall(r'ensures \w* ?\{(.*)\}', body):
+            stated.setdefault(f'ensures {fact.strip()}', set()).add(f'{place} {name}')
         head = body[:body.find('{')]
-        params = re.findall(r'(\w+): (&?(?:mut )?[\[\]\w<>&]+)', head[head.find('('):])
+        params = re.findall(r'(\w+): (&?(?:mut )?[\[\]\w<>& ]+)', re.sub(r'^.*?fn \w+(<[^(]*>)?\(', '', head, flags=re.S))
         for pair in itertools.combinations(sorted(params), 2):
             travel.setdefault(pair, set()).add(f'{place} {name}')
     for found, what in ((stated, 'fact'), (travel, 'parameters')):
