@@ -1,5 +1,5 @@
 -- A probe that finds no corner and settles no edge changes nothing.
-use Rattle.std.proofs.Common.{◌≡◌, ℕ, ◌+◌, ltb, List, [], ◌∷◌, length, Ok, Err, Result, sym, refl, subst}
+use Rattle.std.proofs.Common.{◌≡◌, ℕ, ◌+◌, ltb, List, [], ◌∷◌, length, IfErr, Ok, Err, Result, sym, refl, subst}
 use Rattle.std.proofs.lemmas.Bool.{cond_both}
 use Rattle.plane.specs.declared.fault.Fault.{Fault}
 use Rattle.plane.specs.declared.point.Point.{Point}
@@ -43,3 +43,8 @@ pub still : (m : Meaning) (s : State) (r : Result Said Fault) (t : State) → r 
 still m s r t e l =
     subst (λ (x : State). Still s r x) (sym l)
     (subst (λ (x : Result Said Fault). Still s x (probe m s).leaves) (sym e) (still_probed m s))
+
+-- a refused probe leaves the survey as it was
+pub refused_leaves : (m : Meaning) (s t : State) (r : Result Said Fault) → r ≡ (probe m s).says → t ≡ (probe m s).leaves → IfErr r (λ _. t ≡ s)
+refused_leaves m s t (Ok a) e l = tt
+refused_leaves m s t (Err f) e l = still m s (Err f) t e l

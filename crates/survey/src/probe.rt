@@ -68,7 +68,6 @@ impl<A> Survey<A> {
         ensures held { self.new.body ≡ self.old.body }
         ensures says { result ≡ (take_in (state self.old) i (found_by corner) corner.at).says }
         ensures leaves { state self.new ≡ (take_in (state self.old) i (found_by corner) corner.at).leaves }
-        ensures still { OnErr result (state self.new ≡ state self.old) }
     {
         self.corners
             .try_insert(i, corner)
@@ -84,7 +83,6 @@ impl<A> Survey<A> {
         ensures held { self.new.body ≡ self.old.body }
         ensures says { result ≡ (about_edge (state self.old) self.old.settled (vector asked) at).says }
         ensures leaves { state self.new ≡ (about_edge (state self.old) self.old.settled (vector asked) at).leaves }
-        ensures still { OnErr result (state self.new ≡ state self.old) }
     {
         if at == self.edge_end() {
             self.settled += 1;

@@ -7,6 +7,7 @@ use calls::Corner;
 pub const MOST: usize = 256;
 
 // A survey of a body: its corners so far in outline order, of whose edges the first `settled` are settled.
+// The body stands beside what is found: in a struct apart from it, each public call would stand twice.
 #[derive(Drop)]
 pub struct Survey<A> {
     pub(crate) body: A,
