@@ -1,2 +1,1 @@
-pub mod Outlines
 pub mod Paths
