@@ -1,11 +1,9 @@
 // A second sample: a loaded trolley on its way from one place to the next.
 ghost use Rattle.std.specs.Prelude.{◌≡◌, ◌≤◌, ◌++◌, length, drop, Ok};
-ghost use Rattle.body.specs.Ring.{ring_meaning};
-ghost use Rattle.body.specs.Zonotope.{zonotope_meaning};
-ghost use Rattle.layers.specs.Layers.{moved, summed};
 ghost use Rattle.lemburat.specs.Samples.{trolley, path_corners};
 
 use crate::outline;
+use body::body::Body;
 use body::ring::Ring;
 use body::zonotope::Zonotope;
 use calls::Counts;
@@ -29,9 +27,12 @@ const PLACE: Point = Point { x: 2000, y: 500 };
 
 const NEXT_PLACE: Point = Point { x: 3500, y: 1500 };
 
+// A trolley with its load, at a place.
+type Trolley = Move<Sum<Zonotope<'static>, Ring<'static>>>;
+
 // The trolley with its load, moved to a place.
-fn loaded_trolley(by: Point) -> Move<Sum<Zonotope<'static>, Ring<'static>>>
-    ensures { moved result.by (summed (zonotope_meaning result.part.left.shape.base result.part.left.shape.generators.now) (ring_meaning result.part.right.shape.corners.now)) ≡ trolley by }
+fn loaded_trolley(by: Point) -> Trolley
+    ensures { ⟦<Trolley as Body>⟧.meaning result ≡ trolley by }
 {
     let part = Sum {
         left: Zonotope::new(ORIGIN, &TROLLEY),
