@@ -1,4 +1,4 @@
-ghost use Rattle.std.specs.Prelude.{◌≡◌, is_ok, true, ⊤};
+ghost use Rattle.std.specs.Prelude.{◌≡◌, IsOk, ⊤};
 ghost use Rattle.plane.specs.Plane.{vector};
 ghost use Rattle.plane.specs.Support.{Supports};
 ghost use Rattle.body.specs.Meaning.{Meaning, Bounded};
@@ -10,41 +10,43 @@ use plane::point::Point;
 use std::alloc::AllocError;
 
 // What a plain body is made of: it can be judged, and once it is sound it has a farthest point.
-pub(crate) trait Plain: Copy {
-    ghost meant: { Self → Meaning };
-
-    ghost bounds: { (d : Self) → Bounded (meant d) };
+pub(crate) trait Shape: Copy {
+    ghost meaning: { Self → Meaning };
 
     fn judge(&self) -> Result<u32, Fault>
-        ensures { result ≡ (meant self.now).verdict };
+        ensures { result ≡ (meaning self.now).verdict };
 
     fn farthest(&self, u: Direction) -> Point
-        requires { is_ok (meant self.now).verdict ≡ true }
-        ensures { Supports (vector u) (meant self.now).points result };
+        requires { IsOk (meaning self.now).verdict }
+        ensures { Supports (vector u) (meaning self.now).points result };
+
+    // A sound shape keeps a body's bounds.
+    ghost bounded: { (s : Self) → Bounded (meaning s) };
 }
 
 // A plain body, judged once, when it is made.
-pub struct Judged<D: Plain> {
-    shape: D,
+pub struct Judged<S: Shape> {
+    shape: S,
     verdict: Result<u32, Fault>,
-    ghost known: { verdict ≡ (D.Plain.meant shape).verdict },
+    ghost known: { verdict ≡ (S.Shape.meaning shape).verdict },
 }
 
-impl<D: Plain> Copy for Judged<D> {}
+impl<S: Shape> Copy for Judged<S> {}
 
-impl<D: Plain> Clone for Judged<D> {
+// By hand, since no derive goes over a generic struct with a ghost field; what it promises is the derive's.
+impl<S: Shape> Clone for Judged<S> {
     ghost is_clone = { λ x y. y ≡ x };
 
     ghost is_infallible = { λ _. ⊤ };
 
-    fn clone(&self) -> Result<Judged<D>, AllocError> {
+    fn clone(&self) -> Result<Judged<S>, AllocError> {
         Ok(*self)
     }
 }
 
-impl<D: Plain> Judged<D> {
+impl<S: Shape> Judged<S> {
     // Judges the shape, here and never again.
-    pub(crate) fn over(shape: D) -> Judged<D>
+    pub(crate) fn over(shape: S) -> Judged<S>
         ensures { result.shape ≡ shape }
     {
         let verdict = shape.judge();
@@ -52,10 +54,10 @@ impl<D: Plain> Judged<D> {
     }
 }
 
-impl<D: Plain> Body for Judged<D> {
-    ghost meaning = { λ j. D.Plain.meant j.shape };
+impl<S: Shape> Body for Judged<S> {
+    ghost meaning = { λ j. S.Shape.meaning j.shape };
 
-    ghost bounded = { λ j. D.Plain.bounds j.shape };
+    ghost bounded = { λ j. S.Shape.bounded j.shape };
 
     fn verdict(&self) -> Result<u32, Fault> {
         self.verdict

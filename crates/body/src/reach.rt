@@ -12,13 +12,11 @@ use plane::point::Point;
 pub const LIMIT: u32 = 1_000_000;
 
 // This reach, or the fault at this place where it is beyond the limit.
-pub(crate) fn limited(place: usize, reach: u32) -> Result<u32, Fault>
-    requires { place < 2 ^ 32 }
+pub fn limited(place: u32, reach: u32) -> Result<u32, Fault>
     ensures { result ≡ limited place reach }
 {
     if reach > LIMIT {
-        // `as`: the contract bounds the place, and `try_from` would leave an arm that is never taken.
-        return Err(Fault::new(Cause::BeyondReach, place as u32));
+        return Err(Fault::new(Cause::BeyondReach, place));
     }
     Ok(reach)
 }
@@ -30,7 +28,8 @@ fn reach_verdict(points: &[Point]) -> Result<u32, Fault>
 {
     let mut reach = 0;
     for (i, point) in points.iter().enumerate() {
-        reach = limited(i, point.size())?.max(reach);
+        // `as`: the contract bounds the place, and `try_from` would leave an arm that is never taken.
+        reach = limited(i as u32, point.size())?.max(reach);
     }
     Ok(reach)
 }

@@ -2,7 +2,7 @@ ghost use Rattle.std.specs.Prelude.{◌≡◌};
 ghost use Rattle.body.specs.Ring.{ring_meaning};
 ghost use Rattle.body.specs.RingKept.{ring_bounded};
 
-use crate::judged::{Judged, Plain};
+use crate::judged::{Judged, Shape};
 use crate::reach::{farthest, judge};
 use crate::steps::first_unlawful;
 use plane::direction::Direction;
@@ -21,10 +21,10 @@ pub struct Corners<'a> {
     corners: &'a [Point],
 }
 
-impl Plain for Corners<'_> {
-    ghost meant = { λ r. ring_meaning r.corners.now };
+impl Shape for Corners<'_> {
+    ghost meaning = { λ r. ring_meaning r.corners.now };
 
-    ghost bounds = { λ r. ring_bounded r.corners.now };
+    ghost bounded = { λ r. ring_bounded r.corners.now };
 
     fn judge(&self) -> Result<u32, Fault> {
         let reach = judge(self.corners, MOST)?;

@@ -2,7 +2,7 @@ ghost use Rattle.std.specs.Prelude.{◌≡◌};
 ghost use Rattle.body.specs.Set.{set_meaning};
 ghost use Rattle.body.specs.SetKept.{set_bounded};
 
-use crate::judged::{Judged, Plain};
+use crate::judged::{Judged, Shape};
 use crate::reach::{farthest, judge};
 use plane::direction::Direction;
 use plane::fault::Fault;
@@ -20,10 +20,10 @@ pub struct Points<'a> {
     points: &'a [Point],
 }
 
-impl Plain for Points<'_> {
-    ghost meant = { λ s. set_meaning s.points.now };
+impl Shape for Points<'_> {
+    ghost meaning = { λ s. set_meaning s.points.now };
 
-    ghost bounds = { λ s. set_bounded s.points.now };
+    ghost bounded = { λ s. set_bounded s.points.now };
 
     fn judge(&self) -> Result<u32, Fault> {
         judge(self.points, MOST)

@@ -3,7 +3,7 @@ ghost use Rattle.plane.specs.Plane.{size};
 ghost use Rattle.body.specs.Zonotope.{zonotope_meaning};
 ghost use Rattle.body.specs.ZonotopeKept.{zonotope_bounded};
 
-use crate::judged::{Judged, Plain};
+use crate::judged::{Judged, Shape};
 use crate::near::Near;
 use crate::reach::limited;
 use plane::direction::Direction;
@@ -23,18 +23,18 @@ pub struct Choices<'a> {
     generators: &'a [Point],
 }
 
-// This reach and the size of one more generator.
-fn grown(reach: u32, generator: Point) -> u32
+// A reach within the limit and the size of one more generator, by value: of a number behind `&` the proof would know no range.
+fn reach_with(reach: u32, generator: Point) -> u32
     requires { reach ≤ 1000000 }
     ensures { result ≡ reach + size generator }
 {
     reach + generator.size()
 }
 
-impl Plain for Choices<'_> {
-    ghost meant = { λ z. zonotope_meaning z.base z.generators.now };
+impl Shape for Choices<'_> {
+    ghost meaning = { λ z. zonotope_meaning z.base z.generators.now };
 
-    ghost bounds = { λ z. zonotope_bounded z.base z.generators.now };
+    ghost bounded = { λ z. zonotope_bounded z.base z.generators.now };
 
     fn judge(&self) -> Result<u32, Fault> {
         // `as`: no `From` leads from 32 bits to the width of a length.
@@ -43,7 +43,8 @@ impl Plain for Choices<'_> {
         }
         let mut reach = limited(0, self.base.size())?;
         for (added, generator) in self.generators.iter().enumerate() {
-            reach = limited(added + 1, grown(reach, *generator))?;
+            // `as`: generators are few, and `try_from` would leave an arm that is never taken.
+            reach = limited(added as u32 + 1, reach_with(reach, *generator))?;
         }
         Ok(reach)
     }

@@ -3,7 +3,7 @@ use Rattle.std.proofs.Common.{◌≡◌, ◌≤◌, drop}
 use Rattle.plane.specs.Plane.{size, vector}
 use Rattle.body.specs.Zonotope.{span}
 use Rattle.body.proofs.Spans.{picked}
-use Rattle.body.proofs.zonotope.ChoicesPlain.farthest.Given as goal
+use Rattle.body.proofs.zonotope.ChoicesShape.farthest.Given as goal
 
 abbrev pub invariant-loop-generator : goal.invariant-loop-generator
 invariant-loop-generator l =

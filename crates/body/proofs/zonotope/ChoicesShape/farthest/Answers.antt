@@ -5,7 +5,7 @@ use Rattle.plane.specs.Plane.{origin, plus, vector}
 use Rattle.plane.specs.Support.{Supports, beyond}
 use Rattle.body.specs.Zonotope.{choices}
 use Rattle.body.proofs.Spans.{picked, picked_supports, both_near, next_low}
-use Rattle.body.proofs.zonotope.ChoicesPlain.farthest.Goals as goal
+use Rattle.body.proofs.zonotope.ChoicesShape.farthest.Goals as goal
 
 pub invariant_of-plus : goal.invariant_of-plus
 invariant_of-plus c = record { near = (both_near c.args.self.now.generators.now c.loop-generator.generator-index c.loop-generator.best c.loop-generator-test.true c.loop-generator.invariant.1).0 }
