@@ -1,6 +1,6 @@
 // Points within the greatest reach of a body: neither a sum nor a difference of two of them passes 32 bits.
 ghost use Rattle.std.specs.Prelude.{◌≡◌, ◌≤◌};
-ghost use Rattle.plane.specs.Plane.{size, plus, minus};
+ghost use Rattle.plane.specs.Plane.{size, plus, minus, perp};
 
 use plane::point::Point;
 
@@ -19,6 +19,18 @@ impl Near {
         Point {
             x: self.at.x + q.at.x,
             y: self.at.y + q.at.y,
+        }
+    }
+
+    // This point after a quarter turn to the left about the origin.
+    pub fn perp(self) -> Near
+        ensures { result.at ≡ perp self.at }
+    {
+        Near {
+            at: Point {
+                x: -self.at.y,
+                y: self.at.x,
+            },
         }
     }
 

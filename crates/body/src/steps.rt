@@ -10,12 +10,12 @@ use plane::products::cross;
 // Step i of a ring whose corners are within the limit: from corner i to the one after it.
 #[derive(Clone, Copy)]
 struct Step<'a> {
-    corners: &'a [Point],
+    ring: &'a [Point],
     i: usize,
     start: Point,
-    ghost near: { reach corners.now ≤ 1000000 },
-    ghost within: { i < length corners.now },
-    ghost starts: { start ≡ corner corners.now i },
+    ghost near: { reach ring.now ≤ 1000000 },
+    ghost within: { i < length ring.now },
+    ghost starts: { start ≡ corner ring.now i },
 }
 
 // Whether the way from a through b to c turns strictly left.
@@ -29,47 +29,47 @@ fn turns_left(a: Near, b: Near, c: Near) -> bool
 impl Step<'_> {
     // The corner before the step's start.
     fn before(&self) -> Near
-        ensures { result.at ≡ corner self.now.corners.now (previous (length self.now.corners.now) self.now.i) }
+        ensures { result.at ≡ corner self.now.ring.now (previous (length self.now.ring.now) self.now.i) }
     {
-        let n = self.corners.len();
+        let n = self.ring.len();
         Near {
-            at: self.corners[if self.i == 0 { n - 1 } else { self.i - 1 }],
+            at: self.ring[if self.i == 0 { n - 1 } else { self.i - 1 }],
         }
     }
 
     fn start(&self) -> Near
-        ensures { result.at ≡ corner self.now.corners.now self.now.i }
+        ensures { result.at ≡ corner self.now.ring.now self.now.i }
     {
         Near { at: self.start }
     }
 
     fn end(&self) -> Near
-        ensures { result.at ≡ corner self.now.corners.now (next (length self.now.corners.now) self.now.i) }
+        ensures { result.at ≡ corner self.now.ring.now (next (length self.now.ring.now) self.now.i) }
     {
-        let n = self.corners.len();
+        let n = self.ring.len();
         Near {
-            at: self.corners[if self.i + 1 < n { self.i + 1 } else { 0 }],
+            at: self.ring[if self.i + 1 < n { self.i + 1 } else { 0 }],
         }
     }
 
     fn rises(&self) -> bool
-        ensures { result ≡ rises self.now.corners.now self.now.i }
+        ensures { result ≡ rises self.now.ring.now self.now.i }
     {
         self.end().at > self.start().at
     }
 
     // Whether the way turns strictly left at the step's start.
     fn turns_left(&self) -> bool
-        ensures { result ≡ turns_left self.now.corners.now self.now.i }
+        ensures { result ≡ turns_left self.now.ring.now self.now.i }
     {
         turns_left(self.before(), self.start(), self.end())
     }
 
     // Whether the step is unlawful, given whether an earlier one rose.
     fn is_unlawful(&self, risen: bool) -> bool
-        ensures { result ≡ unlawful_by self.now.corners.now self.now.i (rises self.now.corners.now self.now.i) risen }
+        ensures { result ≡ unlawful_by self.now.ring.now self.now.i (rises self.now.ring.now self.now.i) risen }
     {
-        let n = self.corners.len();
+        let n = self.ring.len();
         (!self.rises() && (risen || self.i + 1 == n)) || (n > 2 && !self.turns_left())
     }
 }
@@ -86,7 +86,11 @@ pub(crate) fn first_unlawful(corners: &[Point]) -> Option<usize>
     let mut risen = false;
     for (i, corner) in corners.iter().enumerate() {
         let start = *corner;
-        let step = Step { corners, i, start };
+        let step = Step {
+            ring: corners,
+            i,
+            start,
+        };
         if step.is_unlawful(risen) {
             return Some(i);
         }

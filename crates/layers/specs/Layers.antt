@@ -1,5 +1,5 @@
 -- What a layer means, from the meanings of its parts.
-use Rattle.std.specs.Prelude.{ℕ, ◌+◌, min, max, List, [], ◌∷◌, ◌++◌, map, Ok, Err}
+use Rattle.std.specs.Prelude.{ℕ, zero, suc, ◌+◌, min, max, List, [], ◌∷◌, ◌++◌, map, Ok, Err}
 use Rattle.plane.specs.declared.fault.Fault.{Fault}
 use Rattle.plane.specs.declared.point.Point.{Point}
 use Rattle.plane.specs.Plane.{size, plus, negate, perp}
@@ -21,6 +21,16 @@ moved v m = record { verdict = over (λ r. limited 0 (r + size v)) m.verdict; po
 -- the points turned by t; the reach stays
 abbrev pub turned : (Point → Point) → Meaning → Meaning
 turned t m = record { verdict = over (λ r. Ok r) m.verdict; points = map t m.points }
+
+-- p after so many quarter turns to the left
+abbrev pub quarter_turns : ℕ → Point → Point
+quarter_turns zero p = p
+quarter_turns (suc n) p = perp (quarter_turns n p)
+
+-- the vector that so many quarter turns take to u
+abbrev pub before_turns : ℕ → Point → Point
+before_turns zero u = u
+before_turns (suc n) u = before_turns n (negate (perp u))
 
 -- a half turn about the origin
 abbrev pub halved : Meaning → Meaning

@@ -1,11 +1,11 @@
 // The answers of layers, from those of their parts.
 ghost use Rattle.std.specs.Prelude.{IsOk};
 ghost use Rattle.plane.specs.Plane.{vector};
-ghost use Rattle.layers.specs.Layers.{moved, turned, summed, joined};
+ghost use Rattle.layers.specs.Layers.{moved, turned, quarter_turns, summed, joined};
 ghost use Rattle.body.specs.Meaning.{Answers};
 
 use crate::part::PartFault;
-use crate::turn::Turn;
+use crate::turn::{turn, turn_back};
 use body::body::Body;
 use body::near::Near;
 use plane::direction::Direction;
@@ -21,12 +21,12 @@ pub(crate) fn move_answer<A: Body>(part: &A, by: Point, u: Direction) -> Result<
     Ok(Near { at: p }.plus(Near { at: by }))
 }
 
-// The part's answer in the direction before the turn, turned.
-pub(crate) fn turned_answer<A: Body, T: Turn>(part: &A, u: Direction) -> Result<Point, Fault>
-    ensures { Answers (turned T.turn (A.Body.meaning part.now)) (vector u) result }
+// The part's answer in the direction before so many quarter turns, turned.
+pub(crate) fn turned_answer<A: Body>(part: &A, u: Direction, turns: u8) -> Result<Point, Fault>
+    ensures { Answers (turned (quarter_turns turns) (A.Body.meaning part.now)) (vector u) result }
 {
-    let p = part.support(T::back(u)).map_err(PartFault)?;
-    Ok(T::turn(Near { at: p }))
+    let p = part.support(turn_back(u, turns)).map_err(PartFault)?;
+    Ok(turn(Near { at: p }, turns))
 }
 
 // The sum of both answers in direction u; the sum is sound.

@@ -1,16 +1,14 @@
 // Layers over any bodies; each is a body again.
 ghost use Rattle.std.specs.Prelude.{◌≡◌};
-ghost use Rattle.layers.specs.Layers.{moved, turned, summed, joined};
-ghost use Rattle.layers.specs.LayersKept.{moved_bounded, summed_bounded, joined_bounded};
+ghost use Rattle.layers.specs.Layers.{moved, turned, halved, quartered, quarter_turns, summed, joined};
+ghost use Rattle.layers.specs.LayersKept.{moved_bounded, turns_bounded, summed_bounded, joined_bounded};
 
 use crate::answers::{join_answer, move_answer, sum_answer, turned_answer};
 use crate::part::{PartFault, limited_sum};
-use crate::turn::{HalfTurn, QuarterTurn, Turn};
 use body::body::Body;
 use plane::direction::Direction;
 use plane::fault::Fault;
 use plane::point::Point;
-use std::marker::PhantomData;
 
 // The part, shifted by `by`.
 #[derive(Drop)]
@@ -19,20 +17,19 @@ pub struct Move<A> {
     pub by: Point,
 }
 
-// The part after a turn about the origin.
+// The part after so many quarter turns to the left about the origin.
 #[derive(Drop)]
-pub struct Turned<A, T> {
+pub struct Turned<A, const TURNS: u8> {
     pub part: A,
-    turn: PhantomData<T>,
 }
 
 // The part after a half turn.
-pub type Half<A> = Turned<A, HalfTurn>;
+pub type Half<A> = Turned<A, 2>;
 
 // The part after a quarter turn to the left.
-pub type Quarter<A> = Turned<A, QuarterTurn>;
+pub type Quarter<A> = Turned<A, 1>;
 
-// All sums of a point of one part and a point of the other. A sum and a join share no more than that both parts are asked.
+// All sums of a point of one part and a point of the other.
 #[derive(Drop)]
 pub struct Sum<A, B> {
     pub left: A,
@@ -62,30 +59,34 @@ impl<A: Body> Body for Move<A> {
     }
 }
 
-impl<A, T> Turned<A, T> {
-    // The turn of the part, as `Half::over(part)`.
-    pub fn over(part: A) -> Turned<A, T>
-        ensures { result.part ≡ part }
-    {
-        Turned {
-            part,
-            turn: PhantomData,
-        }
-    }
-}
+impl<A: Body, const TURNS: u8> Body for Turned<A, TURNS> {
+    ghost meaning = { λ m. turned (quarter_turns TURNS) (A.Body.meaning m.part) };
 
-impl<A: Body, T: Turn> Body for Turned<A, T> {
-    ghost meaning = { λ m. turned T.turn (A.Body.meaning m.part) };
-
-    ghost bounded = { λ m. T.Turn.bounded (A.Body.meaning m.part) (A.Body.bounded m.part) };
+    ghost bounded = { λ m. turns_bounded TURNS (A.Body.bounded m.part) };
 
     fn verdict(&self) -> Result<u32, Fault> {
         Ok(self.part.verdict().map_err(PartFault)?)
     }
 
     fn support(&self, u: Direction) -> Result<Point, Fault> {
-        turned_answer::<A, T>(&self.part, u)
+        turned_answer(&self.part, u, TURNS)
     }
+}
+
+// The half turn of a part: each point negated.
+pub fn half<A: Body>(part: A) -> Half<A>
+    ensures held { result.part ≡ part }
+    ensures means { ⟦<Half<A> as Body>⟧.meaning result ≡ halved (A.Body.meaning part) }
+{
+    Half { part }
+}
+
+// The quarter turn of a part: each (x, y) at (-y, x).
+pub fn quarter<A: Body>(part: A) -> Quarter<A>
+    ensures held { result.part ≡ part }
+    ensures means { ⟦<Quarter<A> as Body>⟧.meaning result ≡ quartered (A.Body.meaning part) }
+{
+    Quarter { part }
 }
 
 impl<A: Body, B: Body> Body for Sum<A, B> {

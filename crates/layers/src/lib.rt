@@ -4,3 +4,4 @@ mod answers;
 pub mod layers;
 mod part;
 mod turn;
+pub mod zonotope;

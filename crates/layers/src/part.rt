@@ -3,8 +3,8 @@ ghost use Rattle.std.specs.Prelude.{◌≡◌, ◌+◌};
 ghost use Rattle.layers.specs.Layers.{raised};
 ghost use Rattle.body.specs.Meaning.{limited};
 
-use body::reach::LIMIT;
-use plane::fault::{Cause, Fault};
+use body::reach::limited;
+use plane::fault::Fault;
 
 // A fault of the part that `?` raises by one layer.
 #[derive(Clone, Copy)]
@@ -15,20 +15,15 @@ impl From<PartFault> for Fault {
 
     fn from(e: PartFault) -> Fault {
         Fault {
-            cause: e.0.cause,
-            place: e.0.place,
             layer: e.0.layer.saturating_add(1),
+            ..e.0
         }
     }
 }
 
-// The sum of two reaches, or a fault where it passes the limit.
+// The sum of two reaches, or a fault where it passes the limit, as it does where it passes 32 bits.
 pub(crate) fn limited_sum(left: u32, right: u32) -> Result<u32, Fault>
     ensures { result ≡ limited 0 (left + right) }
 {
-    let reach = left.saturating_add(right);
-    if reach > LIMIT {
-        return Err(Fault::new(Cause::BeyondReach, 0));
-    }
-    Ok(reach)
+    limited(0, left.saturating_add(right))
 }

@@ -1,7 +1,7 @@
 -- The tests of equality of numbers and points tell what they say.
-use Rattle.std.proofs.Common.{◌≡◌, Bool, true, false, ◌&&◌, ℤ, pos, negsuc, sym, refl, ap, ◌∙◌, subst}
+use Rattle.std.proofs.Common.{◌≡◌, Bool, true, false, ◌&&◌, ◌⊎◌, ℤ, pos, negsuc, sym, refl, ap, ◌∙◌, subst, inl, inr}
 use Rattle.std.specs.Ordering.{int_eq}
-use Rattle.std.proofs.lemmas.Bool.{eqb-true, eq-eqb, and_parts, and_from, both_ways, false≢true}
+use Rattle.std.proofs.lemmas.Bool.{eqb-true, eq-eqb, and_parts, and_from, both_ways, false≢true, cases_Bool}
 use Rattle.std.proofs.lemmas.Bool.Decides.{Decides-int_eq}
 use Rattle.plane.specs.declared.point.Point.{Point}
 use Rattle.plane.specs.Plane.{equal, same}
@@ -45,3 +45,11 @@ told_same p q h =
 pub told_apart : (p q : Point) → false ≡ (int_eq p.x q.x && int_eq p.y q.y) → p ≡ q → ⊥
 told_apart p q h e =
     false≢true (h ∙ and_from _ _ ((Decides-int_eq p.x q.x).1 (λ i. (e i).x)) ((Decides-int_eq p.y q.y).1 (λ i. (e i).y)))
+
+-- the test of the definitions is what `==` answers
+pub same_by_eq : (p q : Point) → same p q ≡ (int_eq p.x q.x && int_eq p.y q.y)
+same_by_eq p q = go (cases_Bool (int_eq p.x q.x && int_eq p.y q.y))
+  where
+    go : ((int_eq p.x q.x && int_eq p.y q.y) ≡ true) ⊎ ((int_eq p.x q.x && int_eq p.y q.y) ≡ false) → same p q ≡ (int_eq p.x q.x && int_eq p.y q.y)
+    go (inl e) = same_yes p q (told_same p q (sym e)) ∙ sym e
+    go (inr e) = same_no p q (told_apart p q (sym e)) ∙ sym e

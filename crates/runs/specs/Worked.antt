@@ -8,10 +8,10 @@ use Rattle.plane.specs.Plane.{point, at, origin, same}
 use Rattle.body.specs.Meaning.{Meaning, answer}
 use Rattle.body.specs.Ring.{ring_meaning}
 use Rattle.body.specs.Set.{set_meaning}
-use Rattle.layers.specs.Layers.{moved, halved, quartered, summed, joined}
 use Rattle.body.specs.Zonotope.{zonotope_meaning}
 use Rattle.calls.specs.declared.Ended.{Ended}
 use Rattle.calls.specs.declared.Ended.TheVariants as ended
+use Rattle.layers.specs.Layers.{moved, halved, quartered, summed, joined}
 use Rattle.survey.specs.Rules.{State, corners, until_closed}
 
 pub data RunOf : Type 0 where

@@ -9,7 +9,6 @@ use layers::layers::{Half, Join, Move, Quarter, Sum};
 use plane::direction::Direction;
 use plane::fault::{Cause, Fault};
 use plane::point::{ORIGIN, Point};
-use std::fmt::Debug;
 use std::process::Abort;
 use std::test::Fail;
 use survey::survey::Survey;
@@ -54,10 +53,10 @@ fn faulty_zonotopes(rt: HostRuntime) {
 fn turns(rt: HostRuntime) -> Result<(), Fail> {
     let segment = points![0, 0; 3, 1];
     let part = Set::new(&segment);
-    let half = Half::over(part);
+    let half = Half { part };
     assert_eq!(rt; half.support(Direction::east()), Ok(ORIGIN));
     outlines(&rt, half, &points![0, 0; -3, -1])?;
-    outlines(&rt, Quarter::over(part), &points![0, 0; -1, 3])
+    outlines(&rt, Quarter { part }, &points![0, 0; -1, 3])
 }
 
 // The sum of a unit square and a set turned by a half is a square from (-1, 0) to (1, 2), moved to lie from (9, 0) to
@@ -71,11 +70,15 @@ fn pile(rt: HostRuntime) -> Result<(), Fail> {
     let left: Move<Sum<Zonotope, Half<Set>>> = Move {
         part: Sum {
             left: Zonotope::new(ORIGIN, &square),
-            right: Half::over(Set::new(&set)),
+            right: Half {
+                part: Set::new(&set),
+            },
         },
         by: Point { x: 10, y: 0 },
     };
-    let right = Quarter::over(Ring::new(&ring));
+    let right = Quarter {
+        part: Ring::new(&ring),
+    };
     let pile: Join<Move<Sum<Zonotope, Half<Set>>>, Quarter<Ring>> = Join { left, right };
     assert_eq!(rt; pile.verdict(), Ok(13));
     outlines(&rt, pile, &points![11, 2; 0, 8; -8, 0; 11, 0])
@@ -106,7 +109,7 @@ fn faults_come_up(rt: HostRuntime) -> Result<(), Fail> {
         beyond,
     );
     let empty = Set::new(&[]);
-    let left = Half::over(empty);
+    let left = Half { part: empty };
     refuses(
         &rt,
         Sum { left, right: empty },
@@ -125,10 +128,12 @@ fn layer_numbers(rt: HostRuntime) {
         Join { left, right },
         layered(Cause::BrokenTable, 7, 254),
     );
-    let part = Half::over(left);
+    let part = Half { part: left };
     refuses(
         &rt,
-        Quarter::over(Quarter::over(part)),
+        Quarter {
+            part: Quarter { part },
+        },
         layered(Cause::BrokenTable, 7, 255),
     );
     let sound = Set::new(&[ORIGIN]);

@@ -26,15 +26,15 @@ after_ends k s t e q = ap (λ (x : State). ended_after k x e) q ∙ ap (λ (n : 
 -- k probes of the run `all` with budget b came before one that leaves t
 module _ (m : Meaning) (b k : ℕ) (t : State) (all : Run) where
   -- where that one said r, the run goes on or is at its end
-  abbrev pub Turned : Result Said Fault → Type 0
-  Turned (Ok Corner) = all ≡ after (k + 1) (run m (b - (k + 1)) t)
-  Turned (Ok Settled) = all ≡ after (k + 1) (run m (b - (k + 1)) t)
-  Turned (Ok Closed) = ended_after k t ended.Closed ≡ all
-  Turned (Err f) = ended_after k t (ended.Refused f) ≡ all
+  abbrev pub OneTurn : Result Said Fault → Type 0
+  OneTurn (Ok Corner) = all ≡ after (k + 1) (run m (b - (k + 1)) t)
+  OneTurn (Ok Settled) = all ≡ after (k + 1) (run m (b - (k + 1)) t)
+  OneTurn (Ok Closed) = ended_after k t ended.Closed ≡ all
+  OneTurn (Err f) = ended_after k t (ended.Refused f) ≡ all
 
   -- the probe is one on s
-  pub turned : (s : State) (n : Meaning) (r : Result Said Fault) → n ≡ m → r ≡ (probe n s).says → t ≡ (probe n s).leaves → k < b → all ≡ after k (run m (b - k) s) → Turned r
-  turned s n r same e l h inv = go r (still n s r t e l) (inv ∙ ap (after k) step)
+  pub one_turn : (s : State) (n : Meaning) (r : Result Said Fault) → n ≡ m → r ≡ (probe n s).says → t ≡ (probe n s).leaves → k < b → all ≡ after k (run m (b - k) s) → OneTurn r
+  one_turn s n r same e l h inv = go r (still n s r t e l) (inv ∙ ap (after k) step)
     where
       rest : Run
       rest = run m (b - (k + 1)) t
@@ -46,13 +46,13 @@ module _ (m : Meaning) (b k : ℕ) (t : State) (all : Run) where
           let leaves = l ∙ ap (λ (x : Meaning). (probe x s).leaves) same in
           ap (λ (j : ℕ). run m j s) more ∙ (λ i. follow (sym says i) s (run m (b - (k + 1)) (sym leaves i)))
 
-      go : (r : Result Said Fault) → Still s r t → all ≡ after k (follow r s rest) → Turned r
+      go : (r : Result Said Fault) → Still s r t → all ≡ after k (follow r s rest) → OneTurn r
       go (Ok Corner) q w = w ∙ after_one k rest
       go (Ok Settled) q w = w ∙ after_one k rest
       go (Ok Closed) q w = after_ends k s t ended.Closed q ∙ sym w
       go (Err f) q w = after_ends k s t (ended.Refused f) q ∙ sym w
 
   -- a probe that found a corner or settled an edge is counted
-  pub counted : (a : Said) → (a ≡ Corner) ⊎ (a ≡ Settled) → Turned (Ok a) → all ≡ after (k + 1) (run m (b - (k + 1)) t)
-  counted a (inl e) w = subst (λ (x : Said). Turned (Ok x)) e w
-  counted a (inr e) w = subst (λ (x : Said). Turned (Ok x)) e w
+  pub counted : (a : Said) → (a ≡ Corner) ⊎ (a ≡ Settled) → OneTurn (Ok a) → all ≡ after (k + 1) (run m (b - (k + 1)) t)
+  counted a (inl e) w = subst (λ (x : Said). OneTurn (Ok x)) e w
+  counted a (inr e) w = subst (λ (x : Said). OneTurn (Ok x)) e w

@@ -1,14 +1,11 @@
 -- What a probe says and leaves, by what the body answers.
-use Rattle.std.proofs.Common.{◌≡◌, ℕ, ◌+◌, ◌<◌, true, false, List, [], ◌∷◌, length, nat_abs, ◌⊎◌, Ok, sym, refl, ap, ◌∙◌, inl, inr, arith}
-use Rattle.std.specs.Prelude.{◌&&◌}
-use Rattle.std.proofs.lemmas.Bool.{lt-ltb, le-leb, and_from, cond-true, cond-false, cases_Bool}
+use Rattle.std.proofs.Common.{◌≡◌, ℕ, ◌+◌, ◌<◌, true, false, List, [], ◌∷◌, length, nat_abs, Ok, sym, refl, ap, ◌∙◌, arith}
+use Rattle.std.proofs.lemmas.Bool.{lt-ltb, le-leb, and_from, cond-true, cond-false}
 use Rattle.std.proofs.lemmas.List.{nil_from_length}
-use Rattle.std.specs.Ordering.{int_eq}
 use Rattle.plane.specs.declared.direction.Direction.{Direction}
 use Rattle.plane.specs.declared.point.Point.{Point}
 use Rattle.plane.specs.Directed.{directed}
-use Rattle.plane.specs.Plane.{vector, same}
-use Rattle.plane.proofs.Points.{same_yes, same_no, told_same, told_apart}
+use Rattle.plane.specs.Plane.{vector}
 use Rattle.plane.proofs.Supporting.{some_way}
 use Rattle.body.specs.Meaning.{Meaning, Answers}
 use Rattle.body.proofs.Answering.{answers_is}
@@ -17,14 +14,6 @@ use Rattle.survey.specs.Rules.{State, Found, closed, question, first_open, take_
 -- a direction is made of two numbers that make one
 directed_yes : (d : Direction) → directed (vector d) ≡ true
 directed_yes d = and_from _ _ (lt-ltb 0 (nat_abs d.x + nat_abs d.y) d.some) (and_from _ _ (le-leb (nat_abs d.x) 2000000 d.wide) (le-leb (nat_abs d.y) 2000000 d.high))
-
--- `==` on points tells whether they are the same
-pub same_told : (p q : Point) → same p q ≡ (int_eq p.x q.x && int_eq p.y q.y)
-same_told p q = go (cases_Bool (int_eq p.x q.x && int_eq p.y q.y))
-  where
-    go : ((int_eq p.x q.x && int_eq p.y q.y) ≡ true) ⊎ ((int_eq p.x q.x && int_eq p.y q.y) ≡ false) → same p q ≡ (int_eq p.x q.x && int_eq p.y q.y)
-    go (inl e) = same_yes p q (told_same p q (sym e)) ∙ sym e
-    go (inr e) = same_no p q (told_apart p q (sym e)) ∙ sym e
 
 -- a survey that is not closed, asks d and is answered p
 module _ (m : Meaning) (s : State) (d : Direction) (p : Point) (not_closed : closed s ≡ false) (e : vector d ≡ question s.found) (a : Answers m (vector d) (Ok p)) where

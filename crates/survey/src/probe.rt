@@ -77,7 +77,7 @@ impl<A> Survey<A> {
     }
 
     // Takes in an answer about the first open edge: its end settles it, and any other point is a corner.
-    #[tactic(auto, using(crate::proofs::Marks::settle_marked, crate::proofs::Steps::same_told))]
+    #[tactic(auto, using(crate::proofs::Marks::settle_marked, plane::proofs::Points::same_by_eq))]
     fn about_edge(&mut self, asked: Direction, at: Point) -> Result<Said, Fault>
         requires { self.old.settled < length self.old.corners.items }
         ensures held { self.new.body ≡ self.old.body }

@@ -14,6 +14,7 @@ impl<A> Survey<A> {
         requires { length self.now.corners.items ≤ length out.old }
         ensures { out.new ≡ corners_of (state self.now) ++ drop (length (state self.now).found) out.old }
     {
+        // By place: through an adapter of `iter_mut` a proof loses sight of the slots.
         for (i, corner) in self.corners.iter().enumerate() {
             out[i] = corner.at;
         }

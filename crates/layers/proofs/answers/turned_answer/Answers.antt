@@ -1,6 +1,8 @@
 -- The part's answer, turned, is the turn's.
 use Rattle.plane.specs.Plane.{vector}
+use Rattle.layers.specs.Layers.{quarter_turns}
 use Rattle.layers.proofs.Layering.{told, answers, near, turned_told}
+use Rattle.layers.proofs.Turning.{turns_carry}
 use Rattle.layers.proofs.answers.turned_answer.Goals as goal
 
 pub invariant_of-turn : goal.invariant_of-turn
@@ -8,4 +10,5 @@ invariant_of-turn g c = record { near = near (g.met.A.Body.bounded c.args.part.n
 
 pub returns : goal.returns
 returns g c =
-    answers (turned_told g.T.Turn.turn c.back.ensures (g.met.T.Turn.carries (vector c.args.u)) (told _ c.in_ok-p.ensures.cases c.support.ensures)) c.turn.ensures
+    let n = c.args.turns in
+    answers (turned_told (quarter_turns n) c.turn_back.ensures (turns_carry n (vector c.args.u)) (told _ c.in_ok-p.ensures.cases c.support.ensures)) c.turn.ensures
