@@ -23,7 +23,7 @@ pub struct Choices<'a> {
     generators: &'a [Point],
 }
 
-// A reach within the limit and the size of one more generator, by value: of a number behind `&` the proof would know no range.
+// A reach within the limit, and one generator more. By value: of a number behind `&` no range is known.
 fn reach_with(reach: u32, generator: Point) -> u32
     requires { reach ≤ 1000000 }
     ensures { result ≡ reach + size generator }

@@ -1,6 +1,7 @@
 // Layers over any bodies; each is a body again.
 ghost use Rattle.std.specs.Prelude.{◌≡◌};
 ghost use Rattle.layers.specs.Layers.{moved, turned, halved, quartered, quarter_turns, summed, joined};
+ghost use Rattle.body.specs.Meaning.{Meaning};
 ghost use Rattle.layers.specs.LayersKept.{moved_bounded, turns_bounded, summed_bounded, joined_bounded};
 
 use crate::answers::{join_answer, move_answer, sum_answer, turned_answer};
@@ -23,11 +24,25 @@ pub struct Turned<A, const TURNS: u8> {
     pub part: A,
 }
 
+// How many quarter turns make a half turn and a quarter turn.
+pub const HALF: u8 = 2;
+
+pub const QUARTER: u8 = 1;
+
 // The part after a half turn.
-pub type Half<A> = Turned<A, 2>;
+pub type Half<A> = Turned<A, HALF>;
 
 // The part after a quarter turn to the left.
-pub type Quarter<A> = Turned<A, 1>;
+pub type Quarter<A> = Turned<A, QUARTER>;
+
+// The turns that have a name, by how many quarter turns each is: a half turn negates each point, a quarter turn takes (x, y)
+// to (-y, x).
+pub fn named_turns() -> (u8, u8)
+    ensures half { (m : Meaning) → turned (quarter_turns result.0) m ≡ halved m }
+    ensures quarter { (m : Meaning) → turned (quarter_turns result.1) m ≡ quartered m }
+{
+    (HALF, QUARTER)
+}
 
 // All sums of a point of one part and a point of the other.
 #[derive(Drop)]
@@ -71,22 +86,6 @@ impl<A: Body, const TURNS: u8> Body for Turned<A, TURNS> {
     fn support(&self, u: Direction) -> Result<Point, Fault> {
         turned_answer(&self.part, u, TURNS)
     }
-}
-
-// The half turn of a part: each point negated.
-pub fn half<A: Body>(part: A) -> Half<A>
-    ensures held { result.part ≡ part }
-    ensures means { ⟦<Half<A> as Body>⟧.meaning result ≡ halved (A.Body.meaning part) }
-{
-    Half { part }
-}
-
-// The quarter turn of a part: each (x, y) at (-y, x).
-pub fn quarter<A: Body>(part: A) -> Quarter<A>
-    ensures held { result.part ≡ part }
-    ensures means { ⟦<Quarter<A> as Body>⟧.meaning result ≡ quartered (A.Body.meaning part) }
-{
-    Quarter { part }
 }
 
 impl<A: Body, B: Body> Body for Sum<A, B> {
