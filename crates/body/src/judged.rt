@@ -33,7 +33,7 @@ pub struct Judged<S: Shape> {
 
 impl<S: Shape> Copy for Judged<S> {}
 
-// By hand, since no derive goes over a generic struct with a ghost field; what it promises is the derive's.
+// By hand: the derive is refused over a ghost field of a generic struct. It promises what a derive does.
 impl<S: Shape> Clone for Judged<S> {
     ghost is_clone = { λ x y. y ≡ x };
 

@@ -1,5 +1,5 @@
-ghost use Rattle.std.specs.Prelude.{◌≡◌, ◌<◌, ◌≤◌, length, pos, int_lt, unwrap_or, IfSome};
-ghost use Rattle.plane.specs.Plane.{orientation, next};
+ghost use Rattle.std.specs.Prelude.{◌≡◌, ◌<◌, ◌≤◌, length, unwrap_or, IfSome};
+ghost use Rattle.plane.specs.Plane.{next};
 ghost use Rattle.body.specs.Ring.{corner, previous, rises, turns_left, unlawful_by, first_unlawful};
 ghost use Rattle.body.specs.Set.{reach};
 
@@ -7,7 +7,7 @@ use crate::near::Near;
 use plane::point::Point;
 use plane::products::cross;
 
-// Step i of a ring whose corners are within the limit: from corner i to the one after it.
+// Step i of a ring whose corners are within the limit: from corner i, where the walk is, to the one after it.
 #[derive(Clone, Copy)]
 struct Step<'a> {
     ring: &'a [Point],
@@ -16,13 +16,6 @@ struct Step<'a> {
     ghost near: { reach ring.now ≤ 1000000 },
     ghost within: { i < length ring.now },
     ghost starts: { start ≡ corner ring.now i },
-}
-
-// Whether the way from a through b to c turns strictly left.
-fn turns_left(a: Near, b: Near, c: Near) -> bool
-    ensures { result ≡ int_lt (pos 0) (orientation a.at b.at c.at) }
-{
-    0 < cross(b.minus(a), c.minus(a))
 }
 
 #[tactic(auto, using(crate::proofs::Stepping::corner_low))]
@@ -62,7 +55,8 @@ impl Step<'_> {
     fn turns_left(&self) -> bool
         ensures { result ≡ turns_left self.now.ring.now self.now.i }
     {
-        turns_left(self.before(), self.start(), self.end())
+        let before = self.before();
+        0 < cross(self.start().minus(before), self.end().minus(before))
     }
 
     // Whether the step is unlawful, given whether an earlier one rose.

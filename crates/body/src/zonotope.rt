@@ -23,7 +23,7 @@ pub struct Choices<'a> {
     generators: &'a [Point],
 }
 
-// A reach within the limit, and one generator more. By value: of a number behind `&` no range is known.
+// A reach within the limit, and one generator more. Takes it by value: the prover knows no range of a number read through `&`.
 fn reach_with(reach: u32, generator: Point) -> u32
     requires { reach ≤ 1000000 }
     ensures { result ≡ reach + size generator }

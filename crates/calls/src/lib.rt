@@ -17,7 +17,7 @@ pub struct Corner {
     pub asked: Direction,
 }
 
-// What a slot holds that no corner is in. By hand, since no direction is a default of its own.
+// What `ArrayVec` fills the slots with that no corner is in. By hand, since no direction is a default of its own.
 impl Default for Corner {
     ghost is_default = { λ c. (c.at ≡ origin) × (vector c.asked ≡ east) };
 

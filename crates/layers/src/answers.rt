@@ -1,4 +1,5 @@
-// The answers of layers, from those of their parts.
+// The answers of layers, from those of their parts. That a layer is sound is required where it is needed: a type for it would be
+// made by the same proof at each call.
 ghost use Rattle.std.specs.Prelude.{IsOk};
 ghost use Rattle.plane.specs.Plane.{vector};
 ghost use Rattle.layers.specs.Layers.{moved, turned, quarter_turns, summed, joined};

@@ -1,7 +1,6 @@
 // Layers over any bodies; each is a body again.
 ghost use Rattle.std.specs.Prelude.{◌≡◌};
 ghost use Rattle.layers.specs.Layers.{moved, turned, halved, quartered, quarter_turns, summed, joined};
-ghost use Rattle.body.specs.Meaning.{Meaning};
 ghost use Rattle.layers.specs.LayersKept.{moved_bounded, turns_bounded, summed_bounded, joined_bounded};
 
 use crate::answers::{join_answer, move_answer, sum_answer, turned_answer};
@@ -24,24 +23,18 @@ pub struct Turned<A, const TURNS: u8> {
     pub part: A,
 }
 
-// How many quarter turns make a half turn and a quarter turn.
-pub const HALF: u8 = 2;
-
-pub const QUARTER: u8 = 1;
-
 // The part after a half turn.
-pub type Half<A> = Turned<A, HALF>;
+pub type Half<A> = Turned<A, 2>;
 
 // The part after a quarter turn to the left.
-pub type Quarter<A> = Turned<A, QUARTER>;
+pub type Quarter<A> = Turned<A, 1>;
 
-// The turns that have a name, by how many quarter turns each is: a half turn negates each point, a quarter turn takes (x, y)
-// to (-y, x).
-pub fn named_turns() -> (u8, u8)
-    ensures half { (m : Meaning) → turned (quarter_turns result.0) m ≡ halved m }
-    ensures quarter { (m : Meaning) → turned (quarter_turns result.1) m ≡ quartered m }
+// What the two names mean: the half turn of a part negates each point, the quarter turn takes (x, y) to (-y, x).
+pub fn named_turns<A: Body + Copy>(part: A) -> (Half<A>, Quarter<A>)
+    ensures half { ⟦<Half<A> as Body>⟧.meaning result.0 ≡ halved (A.Body.meaning part) }
+    ensures quarter { ⟦<Quarter<A> as Body>⟧.meaning result.1 ≡ quartered (A.Body.meaning part) }
 {
-    (HALF, QUARTER)
+    (Half { part }, Quarter { part })
 }
 
 // All sums of a point of one part and a point of the other.
@@ -80,6 +73,7 @@ impl<A: Body, const TURNS: u8> Body for Turned<A, TURNS> {
     ghost bounded = { λ m. turns_bounded TURNS (A.Body.bounded m.part) };
 
     fn verdict(&self) -> Result<u32, Fault> {
+        // The `?` raises a fault of the part.
         Ok(self.part.verdict().map_err(PartFault)?)
     }
 
@@ -88,6 +82,7 @@ impl<A: Body, const TURNS: u8> Body for Turned<A, TURNS> {
     }
 }
 
+// A sum and a join share only that both parts are asked, the left one first.
 impl<A: Body, B: Body> Body for Sum<A, B> {
     ghost meaning = { λ m. summed (A.Body.meaning m.left) (B.Body.meaning m.right) };
 

@@ -19,7 +19,7 @@ pub(crate) fn turn_back(u: Direction, turns: u8) -> Direction
     back
 }
 
-// The point that so many turns make of p.
+// The point that so many turns make of p. The loop counts turns.
 #[tactic(auto, using(crate::proofs::Turning::turns_more))]
 pub(crate) fn turn(p: Near, turns: u8) -> Point
     ensures { result ≡ quarter_turns turns p.at }

@@ -14,7 +14,7 @@ fn times(a: i32, b: i32) -> i64
     i64::from(a) * i64::from(b)
 }
 
-// a·b + c·d, where a and c are a direction's components; any four numbers could take the sum beyond 64 bits.
+// a·b + c·d, where a and c are a direction's components: with others the sum could pass 64 bits, unlike a difference.
 fn products_sum(a: i32, b: i32, c: i32, d: i32) -> i64
     requires first { unsigned_abs a ≤ 2000000 }
     requires second { unsigned_abs c ≤ 2000000 }

@@ -63,7 +63,8 @@ fn one_corner_too_many(rt: &impl Abort, points: &mut [Point]) {
     );
 }
 
-// 251 corners, with x from -128 to 122, among 1,024 points, the others inside: two probes for each corner, one question for each probe, and no verdict asked.
+// 251 corners, with x from -128 to 122, among 1,024 points, the others inside: two probes for each corner, one question for
+// each probe, and no verdict asked.
 #[test]
 fn one_walk_for_each_probe(rt: HostRuntime) {
     one_question_for_each_probe(&rt, &mut [Point { x: 3, y: 12000 }; 1024]);

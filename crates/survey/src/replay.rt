@@ -26,7 +26,7 @@ impl<A: Body> Survey<A> {
         }
     }
 
-    // Makes the calls of a log, in its order; each entry keeps what its call told.
+    // Makes the calls of a log, in its order; each entry keeps what its call told. Log and buffer are lent, each for itself.
     fn make_all(&mut self, log: &mut [Entry], buffer: &mut [Point])
         ensures held { self.new.body ≡ self.old.body }
         ensures calls { calls_of log.new ≡ calls_of log.old }
