@@ -1,5 +1,6 @@
 use crate::expect::{faulty, points};
 use body::body::Body;
+use body::near::Near;
 use body::set::Set;
 use plane::direction::Direction;
 use plane::fault::Cause;
@@ -41,4 +42,33 @@ fn ties(rt: HostRuntime) -> Result<(), Fail> {
     assert_eq!(rt; set.support(Direction::new(0, -3)?), Ok(ORIGIN));
     assert_eq!(rt; set.support(Direction::east()), Ok(Point { x: 2, y: 1 }));
     Ok(())
+}
+
+// At the ends of what is near: no sum and no difference of two such points passes 32 bits.
+#[test]
+fn near_points(rt: HostRuntime) {
+    let p = Near {
+        at: Point {
+            x: 1_000_000,
+            y: -1_000_000,
+        },
+    };
+    let q = Near {
+        at: Point { x: -3, y: 4 },
+    };
+    assert_eq!(rt;
+        p.plus(p),
+        Point {
+            x: 2_000_000,
+            y: -2_000_000
+        }
+    );
+    assert_eq!(rt;
+        p.minus(q),
+        Point {
+            x: 1_000_003,
+            y: -1_000_004
+        }
+    );
+    assert_eq!(rt; q.perp().at, Point { x: -4, y: -3 });
 }

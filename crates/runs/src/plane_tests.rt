@@ -1,3 +1,4 @@
+use calls::Counts;
 use plane::direction::Direction;
 use plane::fault::{Cause, Fault};
 use plane::point::Point;
@@ -44,4 +45,29 @@ fn normals(rt: HostRuntime) {
     assert_eq!(rt; normal(p, q), Direction::new(2, -3));
     assert_eq!(rt; normal(p, p), Direction::new(0, 0));
     assert_eq!(rt; normal(p, LEAST).is_ok(), false);
+}
+
+// What is printed of a refusal, a point and counts, in the form that docs/RULES.md gives.
+#[test]
+fn texts(rt: HostRuntime) -> Result<(), Fail> {
+    let alloc = rt.alloc();
+    let mut fault = Fault::new(Cause::UnlawfulStep, 2);
+    assert_eq!(rt; format!(in alloc; "{fault}")?.as_str(), "refused 12 2 0");
+    fault.layer = 255;
+    fault.place = u32::MAX;
+    assert_eq!(rt;
+        format!(in alloc; "{fault}")?.as_str(),
+        "refused 12 4294967295 255"
+    );
+    let point = Point { x: -7, y: i32::MIN };
+    assert_eq!(rt; format!(in alloc; "{point}")?.as_str(), "-7 -2147483648");
+    let counts = Counts {
+        corners: 256,
+        probes: 512,
+    };
+    assert_eq!(rt;
+        format!(in alloc; "{counts}")?.as_str(),
+        "corners 256 probes 512"
+    );
+    Ok(())
 }
