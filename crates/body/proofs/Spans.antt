@@ -1,15 +1,17 @@
 -- The walks over the generators of a zonotope, and its support point.
-use Rattle.std.proofs.Common.{◌≡◌, ℕ, ◌+◌, ◌<◌, ◌≤◌, Bool, true, false, cond, List, [], ◌∷◌, ◌++◌, length, get_or, drop, refl, arith}
+use Rattle.std.proofs.Common.{◌≡◌, ℕ, ◌+◌, ◌<◌, ◌≤◌, Bool, true, false, cond, List, [], ◌∷◌, ◌++◌, length, get_or, drop, refl, subst, arith}
 use Rattle.std.specs.List.{ContainsAt, AllByRecursion}
 use Rattle.std.proofs.ByRecursion.{All-append, has_append_left, has_append_right, has_push}
 use Rattle.std.proofs.lemmas.Bool.{cond_both}
 use Rattle.std.proofs.lemmas.Bool.Decides.{nat_tests}
+use Rattle.std.proofs.lemmas.Int.{ints}
 use Rattle.std.proofs.lemmas.List.{at_drop_more}
 use Rattle.plane.specs.declared.point.Point.{Point}
 use Rattle.plane.specs.Plane.{origin, size, plus}
 use Rattle.plane.specs.Support.{NotBeyond, Supports, beyond}
 use Rattle.plane.proofs.Carrying.{not_beyond_plus}
-use Rattle.plane.proofs.Supporting.{not_beyond_itself, not_beyond_trans, beyond_yes, beyond_no}
+use Rattle.plane.proofs.Points.{point_same}
+use Rattle.plane.proofs.Supporting.{not_beyond_itself, beyond_yes, beyond_no}
 use Rattle.body.specs.Bounds.{size_within, plus_within}
 use Rattle.body.specs.Meaning.{limited}
 use Rattle.body.specs.Zonotope.{choices, span, overrun}
@@ -22,27 +24,30 @@ beyond_stays place r (g ∷ gs) h = grind (arith, nat_tests, span_more)
 
 -- ---- the farthest choice
 
--- b plus each generator that takes it farther
+-- b plus each generator that lies beyond the origin
 abbrev pub picked : Point → Point → List Point → Point
 picked u b [] = b
-picked u b (g ∷ gs) = picked u (cond (beyond u b (plus b g)) (plus b g) b) gs
+picked u b (g ∷ gs) = picked u (cond (beyond u origin g) (plus b g) b) gs
+
+plus_origin : (p : Point) → plus p origin ≡ p
+plus_origin p = point_same (omega (arith, ints)) (omega (arith, ints))
 
 module _ (u : Point) where
   -- with g or without it, as chosen, a is not behind b, nor behind b with g
-  chosen : (g a b : Point) → NotBeyond u a b → (t : Bool) → beyond u a (plus a g) ≡ t → NotBeyond u (cond t (plus a g) a) b × NotBeyond u (cond t (plus a g) a) (plus b g)
-  chosen g a b h true e = (not_beyond_trans u (plus a g) a b (beyond_yes u a (plus a g) e) h, not_beyond_plus u a g b g h (not_beyond_itself u g))
-  chosen g a b h false e = (h, not_beyond_trans u a (plus a g) (plus b g) (beyond_no u a (plus a g) e) (not_beyond_plus u a g b g h (not_beyond_itself u g)))
+  chosen : (g a b : Point) → NotBeyond u a b → (t : Bool) → beyond u origin g ≡ t → NotBeyond u (cond t (plus a g) a) b × NotBeyond u (cond t (plus a g) a) (plus b g)
+  chosen g a b h true e = (subst (NotBeyond u (plus a g)) (plus_origin b) (not_beyond_plus u a g b origin h (beyond_yes u origin g e)), not_beyond_plus u a g b g h (not_beyond_itself u g))
+  chosen g a b h false e = (h, subst (λ (z : Point). NotBeyond u z (plus b g)) (plus_origin a) (not_beyond_plus u a origin b g h (beyond_no u origin g e)))
 
   picked_greatest : (gs : List Point) (a b : Point) → NotBeyond u a b → AllByRecursion (NotBeyond u (picked u a gs)) (choices b gs)
   picked_greatest [] a b h = (h, tt)
   picked_greatest (g ∷ gs) a b h =
-      let c = cond (beyond u a (plus a g)) (plus a g) a in
-      let k = chosen g a b h (beyond u a (plus a g)) refl in
+      let c = cond (beyond u origin g) (plus a g) a in
+      let k = chosen g a b h (beyond u origin g) refl in
       All-append (NotBeyond u (picked u c gs)) (choices b gs) (choices (plus b g) gs) (picked_greatest gs c b k.0) (picked_greatest gs c (plus b g) k.1)
 
   picked_listed : (gs : List Point) (b : Point) → ContainsAt (choices b gs) (picked u b gs)
   picked_listed [] b = has_push [] b
-  picked_listed (g ∷ gs) b = go (beyond u b (plus b g)) (picked_listed gs (plus b g)) (picked_listed gs b)
+  picked_listed (g ∷ gs) b = go (beyond u origin g) (picked_listed gs (plus b g)) (picked_listed gs b)
     where
       go : (t : Bool) → ContainsAt (choices (plus b g) gs) (picked u (plus b g) gs) → ContainsAt (choices b gs) (picked u b gs) → ContainsAt (choices b gs ++ choices (plus b g) gs) (picked u (cond t (plus b g) b) gs)
       go true h k = has_append_right (choices b gs) (choices (plus b g) gs) _ h

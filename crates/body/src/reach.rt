@@ -2,7 +2,7 @@ ghost use Rattle.std.specs.Prelude.{◌≡◌, ◌<◌, ◌^◌, length};
 ghost use Rattle.plane.specs.Plane.{vector};
 ghost use Rattle.plane.specs.Support.{Supports};
 ghost use Rattle.body.specs.Meaning.{limited};
-ghost use Rattle.body.specs.Set.{reach_verdict, points_verdict};
+ghost use Rattle.body.specs.Set.{reach, reach_verdict, points_verdict};
 
 use plane::direction::Direction;
 use plane::fault::{Cause, Fault};
@@ -19,6 +19,17 @@ pub fn limited(place: u32, reach: u32) -> Result<u32, Fault>
         return Err(Fault::new(Cause::BeyondReach, place));
     }
     Ok(reach)
+}
+
+// The largest size of a point. With no test on its way the walk takes several points at a time.
+fn reach_of(points: &[Point]) -> u32
+    ensures { result ≡ reach points.now }
+{
+    let mut reach = 0;
+    for point in points {
+        reach = point.size().max(reach);
+    }
+    reach
 }
 
 // The largest size of a point, or the fault at the first point beyond the limit.
@@ -45,6 +56,11 @@ pub(crate) fn judge(points: &[Point], most: u32) -> Result<u32, Fault>
     if points.len() > most as usize {
         return Err(Fault::new(Cause::TooManyPoints, most));
     }
+    let reach = reach_of(points);
+    if reach <= LIMIT {
+        return Ok(reach);
+    }
+    // Only a list that is refused is walked again, for the place.
     reach_verdict(points)
 }
 

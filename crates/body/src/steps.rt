@@ -59,12 +59,12 @@ impl Step<'_> {
         0 < cross(self.start().minus(before), self.end().minus(before))
     }
 
-    // Whether the step is unlawful, given whether an earlier one rose.
-    fn is_unlawful(&self, risen: bool) -> bool
-        ensures { result ≡ unlawful_by self.now.ring.now self.now.i (rises self.now.ring.now self.now.i) risen }
+    // Whether the step is unlawful, given whether it rises and whether an earlier one rose.
+    fn is_unlawful(&self, up: bool, risen: bool) -> bool
+        ensures { result ≡ unlawful_by self.now.ring.now self.now.i up risen }
     {
         let n = self.ring.len();
-        (!self.rises() && (risen || self.i + 1 == n)) || (n > 2 && !self.turns_left())
+        (!up && (risen || self.i + 1 == n)) || (n > 2 && !self.turns_left())
     }
 }
 
@@ -85,10 +85,11 @@ pub(crate) fn first_unlawful(corners: &[Point]) -> Option<usize>
             i,
             start,
         };
-        if step.is_unlawful(risen) {
+        let up = step.rises();
+        if step.is_unlawful(up, risen) {
             return Some(i);
         }
-        risen = risen || step.rises();
+        risen = risen || up;
     }
     None
 }

@@ -1,14 +1,15 @@
-ghost use Rattle.std.specs.Prelude.{◌≡◌, ◌+◌, ◌≤◌};
+ghost use Rattle.std.specs.Prelude.{◌≡◌, ◌+◌, ◌≤◌, length};
 ghost use Rattle.plane.specs.Plane.{size};
-ghost use Rattle.body.specs.Zonotope.{zonotope_meaning};
+ghost use Rattle.body.specs.Meaning.{limited};
+ghost use Rattle.body.specs.Zonotope.{overrun, span, zonotope_meaning};
 ghost use Rattle.body.specs.ZonotopeKept.{zonotope_bounded};
 
 use crate::judged::{Judged, Shape};
 use crate::near::Near;
-use crate::reach::limited;
+use crate::reach::{LIMIT, limited};
 use plane::direction::Direction;
 use plane::fault::{Cause, Fault};
-use plane::point::Point;
+use plane::point::{ORIGIN, Point};
 
 // The greatest number of generators of a zonotope.
 pub const MOST: u32 = 64;
@@ -31,6 +32,33 @@ fn reach_with(reach: u32, generator: Point) -> u32
     reach + generator.size()
 }
 
+impl Choices<'_> {
+    // The size of the base plus that of each generator. With no test on its way the walk takes several generators at a time.
+    fn span(&self) -> u64
+        requires { length self.now.generators.now ≤ 64 }
+        ensures { result ≡ span (size self.now.base) self.now.generators.now }
+    {
+        let mut reach = u64::from(self.base.size());
+        for generator in self.generators {
+            reach += u64::from(generator.size());
+        }
+        reach
+    }
+
+    // The same, or the fault after the generator that first takes it beyond the limit.
+    fn running_reach(&self) -> Result<u32, Fault>
+        requires { length self.now.generators.now ≤ 64 }
+        ensures { result ≡ limited (overrun (size self.now.base) self.now.generators.now) (span (size self.now.base) self.now.generators.now) }
+    {
+        let mut reach = limited(0, self.base.size())?;
+        for (added, generator) in self.generators.iter().enumerate() {
+            // `as`: generators are few, and `try_from` would leave an arm that is never taken.
+            reach = limited(added as u32 + 1, reach_with(reach, *generator))?;
+        }
+        Ok(reach)
+    }
+}
+
 impl Shape for Choices<'_> {
     ghost meaning = { λ z. zonotope_meaning z.base z.generators.now };
 
@@ -41,20 +69,22 @@ impl Shape for Choices<'_> {
         if self.generators.len() > MOST as usize {
             return Err(Fault::new(Cause::TooManyPoints, MOST));
         }
-        let mut reach = limited(0, self.base.size())?;
-        for (added, generator) in self.generators.iter().enumerate() {
-            // `as`: generators are few, and `try_from` would leave an arm that is never taken.
-            reach = limited(added as u32 + 1, reach_with(reach, *generator))?;
+        let span = self.span();
+        if span <= u64::from(LIMIT) {
+            // `as`: the limit fits 32 bits, and `try_from` would leave an arm that is never taken.
+            return Ok(span as u32);
         }
-        Ok(reach)
+        // Only a zonotope that is refused is walked again, for the place.
+        self.running_reach()
     }
 
-    // The base plus each generator that takes it farther.
+    // The base plus each generator that lies beyond the origin.
     fn farthest(&self, u: Direction) -> Point {
         let mut best = self.base;
         for generator in self.generators {
-            let more = Near { at: best }.plus(Near { at: *generator });
-            best = u.farther(best, more);
+            if u.beyond(ORIGIN, *generator) {
+                best = Near { at: best }.plus(Near { at: *generator });
+            }
         }
         best
     }

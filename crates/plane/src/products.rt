@@ -49,8 +49,9 @@ impl Direction {
     pub fn beyond(self, p: Point, q: Point) -> bool
         ensures { result ≡ beyond (vector self) p q }
     {
-        let along = |a: Direction| a.dot(p).cmp(&a.dot(q));
-        along(self).then_with(|| along(self.perp())).is_lt()
+        let here = self.dot(p);
+        let there = self.dot(q);
+        here < there || (here == there && self.perp().dot(p) < self.perp().dot(q))
     }
 
     // The one of two points that lies farther this way, by the same order.

@@ -4,7 +4,7 @@ use Rattle.plane.specs.declared.point.Point.{Point}
 use Rattle.plane.specs.Plane.{size}
 use Rattle.body.specs.Meaning.{Verdict, limited}
 use Rattle.body.specs.Zonotope.{overrun, span}
-use Rattle.body.proofs.zonotope.ChoicesShape.judge.Given as goal
+use Rattle.body.proofs.zonotope.Choices.running_reach.Given as goal
 
 -- the verdict of the generators that are left, after `added` of them and a reach of r
 abbrev left : ℕ → ℕ → List Point → Verdict

@@ -3,7 +3,7 @@ use Rattle.std.proofs.Common.{◌+◌, drop, arith}
 use Rattle.std.proofs.lemmas.Grind.{common_steps}
 use Rattle.plane.specs.Plane.{size}
 use Rattle.body.proofs.Spans.{beyond_stays}
-use Rattle.body.proofs.zonotope.ChoicesShape.judge.Goals as goal
+use Rattle.body.proofs.zonotope.Choices.running_reach.Goals as goal
 
 pub returns-in_err-reach : goal.returns-in_err-reach
 returns-in_err-reach c = grind (arith, common_steps, beyond_stays 0 (size c.args.self.now.base) c.args.self.now.generators.now)
