@@ -1,8 +1,8 @@
-ghost use Rattle.std.specs.Prelude.{◌≡◌, ◌<◌, ◌^◌, length};
+ghost use Rattle.std.specs.Prelude.{◌≡◌, ◌<◌, length, unwrap_or, IfSome};
 ghost use Rattle.plane.specs.Plane.{vector};
 ghost use Rattle.plane.specs.Support.{Supports};
 ghost use Rattle.body.specs.Meaning.{limited};
-ghost use Rattle.body.specs.Set.{reach, reach_verdict, points_verdict};
+ghost use Rattle.body.specs.Set.{reach, first_beyond, points_verdict};
 
 use plane::direction::Direction;
 use plane::fault::{Cause, Fault};
@@ -32,17 +32,17 @@ fn reach_of(points: &[Point]) -> u32
     reach
 }
 
-// The largest size of a point, or the fault at the first point beyond the limit.
-fn reach_verdict(points: &[Point]) -> Result<u32, Fault>
-    requires { length points.now < 2 ^ 32 }
-    ensures { result ≡ reach_verdict points.now }
+// The number of the first point beyond the limit, if there is one.
+fn first_beyond(points: &[Point]) -> Option<usize>
+    ensures value { first_beyond points.now ≡ unwrap_or result (length points.now) }
+    ensures within { IfSome result (λ i. i < length points.now) }
 {
-    let mut reach = 0;
     for (i, point) in points.iter().enumerate() {
-        // `as`: the contract bounds the place, and `try_from` would leave an arm that is never taken.
-        reach = limited(i as u32, point.size())?.max(reach);
+        if point.size() > LIMIT {
+            return Some(i);
+        }
     }
-    Ok(reach)
+    None
 }
 
 // The verdict of a list of 1 to `most` points.
@@ -56,12 +56,13 @@ pub(crate) fn judge(points: &[Point], most: u32) -> Result<u32, Fault>
     if points.len() > most as usize {
         return Err(Fault::new(Cause::TooManyPoints, most));
     }
-    let reach = reach_of(points);
-    if reach <= LIMIT {
-        return Ok(reach);
+    let greatest = reach_of(points);
+    if greatest > LIMIT {
+        // Only a list that is refused is walked again. `as`: the number of a point is bounded by `most`.
+        let place = first_beyond(points).unwrap_or(points.len());
+        return Err(Fault::new(Cause::BeyondReach, place as u32));
     }
-    // Only a list that is refused is walked again, for the place.
-    reach_verdict(points)
+    Ok(greatest)
 }
 
 // The support point of a list in direction u, in one walk over it.

@@ -45,7 +45,7 @@ impl Choices<'_> {
         reach
     }
 
-    // The same, or the fault after the generator that first takes it beyond the limit.
+    // That sum, or the fault after the base or the generator that first takes it beyond the limit.
     fn running_reach(&self) -> Result<u32, Fault>
         requires { length self.now.generators.now ≤ 64 }
         ensures { result ≡ limited (overrun (size self.now.base) self.now.generators.now) (span (size self.now.base) self.now.generators.now) }
@@ -70,12 +70,12 @@ impl Shape for Choices<'_> {
             return Err(Fault::new(Cause::TooManyPoints, MOST));
         }
         let span = self.span();
-        if span <= u64::from(LIMIT) {
-            // `as`: the limit fits 32 bits, and `try_from` would leave an arm that is never taken.
-            return Ok(span as u32);
+        if span > u64::from(LIMIT) {
+            // Only a zonotope that is refused is walked again, for the place.
+            return self.running_reach();
         }
-        // Only a zonotope that is refused is walked again, for the place.
-        self.running_reach()
+        // `as`: it is tested, and `try_from` would leave an arm that is never taken.
+        Ok(span as u32)
     }
 
     // The base plus each generator that lies beyond the origin.

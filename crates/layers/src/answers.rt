@@ -23,7 +23,7 @@ pub(crate) fn move_answer<A: Body>(part: &A, by: Point, u: Direction) -> Result<
 }
 
 // The part's answer in the direction before so many quarter turns, turned. Inlined, since the layer knows how many they are.
-#[inline(always)]
+#[inline]
 pub(crate) fn turned_answer<A: Body>(part: &A, u: Direction, turns: u8) -> Result<Point, Fault>
     ensures { Answers (turned (quarter_turns turns) (A.Body.meaning part.now)) (vector u) result }
 {

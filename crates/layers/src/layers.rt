@@ -77,7 +77,7 @@ impl<A: Body, const TURNS: u8> Body for Turned<A, TURNS> {
         Ok(self.part.verdict().map_err(PartFault)?)
     }
 
-    // Inlined, so that no turn of a pile is a call.
+    // A hint: in a pile the call would cost more than the turn.
     #[inline]
     fn support(&self, u: Direction) -> Result<Point, Fault> {
         turned_answer(&self.part, u, TURNS)

@@ -1,4 +1,4 @@
-// Quarter turns to the left, about the origin. They are inlined, so that a layer, which knows its number of turns, runs no loop.
+// Quarter turns to the left, about the origin. Hints to inline: a layer knows its number of turns, so a loop over one or two is straight code.
 ghost use Rattle.std.specs.Prelude.{◌≡◌};
 ghost use Rattle.plane.specs.Plane.{vector};
 ghost use Rattle.layers.specs.Layers.{quarter_turns, before_turns};
@@ -8,7 +8,7 @@ use plane::direction::Direction;
 use plane::point::Point;
 
 // The direction that so many turns take to u. The loop counts turns; no list is walked.
-#[inline(always)]
+#[inline]
 #[tactic(auto, using(crate::proofs::Turning::before_more))]
 pub(crate) fn turn_back(u: Direction, turns: u8) -> Direction
     ensures { vector result ≡ before_turns turns (vector u) }
@@ -21,7 +21,7 @@ pub(crate) fn turn_back(u: Direction, turns: u8) -> Direction
 }
 
 // The point that so many turns make of p. The loop counts turns.
-#[inline(always)]
+#[inline]
 #[tactic(auto, using(crate::proofs::Turning::turns_more))]
 pub(crate) fn turn(p: Near, turns: u8) -> Point
     ensures { result ≡ quarter_turns turns p.at }
